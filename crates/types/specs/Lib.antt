@@ -1,0 +1,5 @@
+pub mod Refusals
+pub mod Identities
+pub mod Kinds
+pub mod Values
+pub mod Limits

@@ -1,0 +1,4 @@
+pub mod bounds;
+pub mod error;
+pub mod types;
+pub mod value;
