@@ -1,0 +1,3 @@
+pub mod Rfc
+pub mod Starts
+pub mod Writing
