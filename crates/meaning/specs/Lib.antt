@@ -1,0 +1,17 @@
+pub mod Results
+pub mod Lists
+pub mod Entries
+pub mod Patches
+pub mod Rows
+pub mod Values
+pub mod Application
+pub mod Documents
+pub mod Calls
+pub mod Builder
+pub mod Joining
+pub mod Log
+pub mod Making
+pub mod Kept
+pub mod Carrying
+pub mod ValueLaws
+pub mod Examples

@@ -1,0 +1,3 @@
+pub mod Orders
+pub mod Sets
+pub mod Keys

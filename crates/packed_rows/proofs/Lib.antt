@@ -1,0 +1,2 @@
+pub mod PackedRows
+pub mod Packing
