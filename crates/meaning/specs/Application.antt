@@ -15,7 +15,7 @@ abbrev pub onObject : {X : Type 0} → (X → Answer X) → Item X → Answer (I
 onObject g (scalar s b) = Err Fail
 onObject g (object x b) = onOk (λ y. object y b) (g x)
 
--- What a step leads to, replaced by what g makes of it. A position step through a text ends in success without effect.
+-- What a step leads to, replaced by what g makes of it. A step by position into a text succeeds and changes nothing.
 abbrev pub through : {U X : Type 0} → Prop → (X → Answer X) → Row (List U) (Item X) → Answer (Row (List U) (Item X))
 through (key k) g (mapOf m) = onOk mapOf (modIn ApplyInvalidProp k (onObject g) m)
 through (key k) g (listOf l) = Err Fail
@@ -65,7 +65,7 @@ pub record Applied (U : Type 0) : Type 0 where
 abbrev pub oneMore : {U : Type 0} → Applied U → Applied U
 oneMore a = record { value = a .value; count = suc (a .count); answer = a .answer }
 
--- A patch that succeeds counts, and the rest goes on; a refused one does nothing.
+-- A patch that succeeds counts, and the rest goes on; a refused one leaves the value alone.
 abbrev pub appliedWith : {U : Type 0} → Value U → Answer (Value U) → (Value U → Applied U) → Applied U
 appliedWith v (Ok w) rest = oneMore (rest w)
 appliedWith v (Err r) rest = record { value = v; count = 0; answer = Err r }

@@ -55,7 +55,7 @@ abbrev pub flagEntry : Entry → Entry
 flagEntry e = record { content = e .content; ident = e .ident; flag = true }
 
 module _ {U : Type 0} where
-  -- A conflict flag sets the flag of a put of the same key or position.
+  -- To flag what was just put is to flag the put.
   abbrev pub joinFlag : Prop → Action U → Joined U
   joinFlag (key k) (putMap j x) = cond (isEq (compareKeys k j)) (into (putMap j (flagEntry x))) apart
   joinFlag (pos i) (putMap j x) = apart
@@ -74,12 +74,12 @@ module _ {U : Type 0} (units : List ℕ → List U) where
   allOne [] = true
   allOne (e ∷ es) = eqb (length (unitsIn units e)) 1 && allOne es
 
-  -- In a text of the document an Insert is joined or shortened only where all values are one unit wide.
+  -- Positions in a text of the document count units, so there an Insert is edited only if each of its values is one unit.
   abbrev pub allowed : Bool → List Entry → Bool
   allowed true es = allOne es
   allowed false es = true
 
-  -- An insert at i after an Insert at t of n values joins it when t ≤ i ≤ t + n, and goes in at i - t.
+  -- After an Insert of n values at t, an insert at i lands among them, at place i - t, if i is neither before t nor past t + n.
   abbrev pub joinInsert : Bool → ℕ → Entry → Action U → Joined U
   joinInsert txt i e (putMap k x) = apart
   joinInsert txt i e (putSeq t x) = apart
@@ -91,7 +91,7 @@ module _ {U : Type 0} (units : List ℕ → List U) where
   joinInsert txt i e (deleteMap k) = apart
   joinInsert txt i e (deleteSeq t n) = apart
 
-  -- A splice joins a SpliceText likewise, in units.
+  -- The same for a splice after a SpliceText, counted in units.
   abbrev pub joinSplice : ℕ → List ℕ → Action U → Joined U
   joinSplice i s (putMap k x) = apart
   joinSplice i s (putSeq t x) = apart
@@ -103,7 +103,7 @@ module _ {U : Type 0} (units : List ℕ → List U) where
   joinSplice i s (deleteMap k) = apart
   joinSplice i s (deleteSeq t n) = apart
 
-  -- A deletion at i of m elements takes them out of an Insert or SpliceText that has them all; after a DeleteSeq at exactly i the lengths add.
+  -- To delete what the last patch put in takes it out again, if the patch has all of it; two deletions at one place add up.
   abbrev pub joinDelete : Bool → ℕ → ℕ → Action U → Joined U
   joinDelete txt i m (putMap k x) = apart
   joinDelete txt i m (putSeq t x) = apart
@@ -127,7 +127,7 @@ module _ {U : Type 0} (units : List ℕ → List U) where
   join txt (spliceCall i s) a = joinSplice i s a
 
 module _ {U : Type 0} where
-  -- A call's own patch, put before what is given: one, or none where the object has no path.
+  -- The patch of a call by itself, in front of others; an object without a path gives none.
   abbrev pub ownAt : Option (List Step) → ObjId → Action U → List (Patch U) → List (Patch U)
   ownAt none o a ps = ps
   ownAt (some s) o a ps = record { obj = o; path = s; action = a } ∷ ps
@@ -156,7 +156,7 @@ module _ {U : Type 0} where
   abbrev pub start : State U
   start = record { taken = []; held = [] }
 
-  -- All batches taken, in order, then the patches still held.
+  -- What has come out of the builder, and what is still in it.
   abbrev pub joined : State U → List (Patch U)
   joined st = st .taken ++ reverse (st .held)
 

@@ -35,7 +35,7 @@ ownAction units (incrementCall p n d) = increment p n
 ownAction units (flagCall p) = conflict p
 ownAction units (spliceCall i t) = spliceText i (units t)
 
--- 1: an identity has counter 0; only the root may be written to all the same.
+-- 1: some identity counts from 0, and is not the root that is written to.
 abbrev pub zeroId : OpId → Bool
 zeroId d = eqb (d .counter) 0
 
@@ -86,7 +86,7 @@ deletionAlone (incrementCall p n d) = false
 deletionAlone (flagCall p) = false
 deletionAlone (spliceCall i t) = false
 
--- 4: a key, a scalar or a splice is too long.
+-- 4: more bytes than a key, a scalar or a splice may have.
 abbrev pub longKey : Key → Bool
 longKey k = ltb (limits .«key_bytes») (length k)
 
@@ -109,7 +109,7 @@ tooLong (incrementCall p n d) = longProp p
 tooLong (flagCall p) = longProp p
 tooLong (spliceCall i t) = ltb (limits .«splice_bytes») (length t)
 
--- 5: a key, a string or a splice is not UTF-8.
+-- 5: bytes that are to be text and are no UTF-8.
 abbrev pub badProp : Prop → Bool
 badProp (key k) = not (utf8 k)
 badProp (pos i) = false

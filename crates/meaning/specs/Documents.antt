@@ -184,7 +184,7 @@ docCounts (o ∷ os) = plus (rowCounts (o .row)) (docCounts os)
 abbrev pub HasParent : Doc → Obj → Type 0
 HasParent d o = 0 < name o → (0 < o .ident .0 .counter) × (q : Obj) × (find d (rank (o .parent)) ≡ some q) × (rank (o .parent) < name o)
 
--- An object entry in o's row carries the identity and the kind of an object whose parent is o.
+-- What an object entry of o names: a child of o, under the child's own identity and kind.
 abbrev pub NamesChild : Doc → Obj → Ref → Type 0
 NamesChild d o r = (0 < refRank r) × (c : Obj) × (find d (refRank r) ≡ some c) × (c .kind ≡ r .kind) × (rank (c .parent) ≡ name o)
 
@@ -250,7 +250,7 @@ climb d (suc n) i =
     cond (eqb i 0) (some [])
     (onSome (find d i) (λ c. onSome (find d (rank (c .parent))) (λ q. onSome (seek i (items q)) (λ s. Option·map (λ p. p ++ (record { leaves = q .ident; prop = s } ∷ [])) (climb d n (rank (c .parent)))))))
 
--- The path of an object; none for one that is unknown, hidden, or below such.
+-- The path of an object, if each object on the way down to it stands in its parent's row.
 abbrev pub pathOf : Doc → ObjId → Option (List Step)
 pathOf d o = climb d (rank o) (rank o)
 

@@ -25,7 +25,7 @@ ranks (o ∷ os) = rank o ∷ ranks os
 abbrev pub Key : Type 0
 Key = List ℕ
 
--- Keys compare by bytes, a part of a key before the whole.
+-- Keys are ordered byte by byte, and the beginning of a key comes before it.
 abbrev pub compareKeys : Key → Key → Ordering
 compareKeys [] [] = Equal
 compareKeys [] (y ∷ ys) = Less

@@ -13,7 +13,7 @@ use Rattle.meaning.specs.Calls.{ownAction}
 use Rattle.meaning.specs.Log.{Event, Log}
 use Rattle.meaning.specs.Making.{eventsOf}
 
--- An object in a kept row: there from before, or placed by an event. This belongs to the entry, and not to the identity.
+-- An object in a replayed row: it was there, or an event placed it. The tag is the entry's: one identity may stand in a row under both.
 pub data Tag : Type 0 where
   old : Ref → Tag
   new : Ref → Tag
@@ -23,18 +23,18 @@ abbrev pub untag : Tag → Ref
 untag (old r) = r
 untag (new r) = r
 
--- Every new object is exposed, and no old one.
+-- An object is exposed exactly if it is new.
 abbrev pub Told : Log → Tag → Type 0
 Told l (old r) = In (refRank r) (ranks (l .exposed)) → ⊥
 Told l (new r) = In (refRank r) (ranks (l .exposed))
 
 module _ {U : Type 0} (units : List ℕ → List U) where
-  -- Events in a row, in order, each as application does it.
+  -- A row after events, one by one, by the rules of a screen.
   abbrev pub replay : {X : Type 0} → (Ref → X) → List Event → Row (List U) (Item X) → Answer (Row (List U) (Item X))
   replay g [] ρ = Ok ρ
   replay g (e ∷ es) ρ = andThen (inRow units g (ownAction units (e .does)) ρ) (replay g es)
 
-  -- An object's row, its objects called old, after the log's events for it.
+  -- A row after the log's events for its object, where what stood in it before counts as old.
   abbrev pub replayed : Log → Obj → Answer (Row (List U) (Item Tag))
   replayed l a = replay new (eventsOf (l .events) (name a)) (mapRow old (rowIn units a))
 
@@ -42,7 +42,7 @@ module _ {U : Type 0} (units : List ℕ → List U) where
   abbrev pub LeadsRow : Log → Obj → Obj → Type 0
   LeadsRow l a b = (ρ : Row (List U) (Item Tag)) × (replayed l a ≡ Ok ρ) × (mapRow untag ρ ≡ rowIn units b) × Every (Told l) (refs ρ)
 
-  -- The root is kept, and the old objects at the end of a kept row are kept in turn.
+  -- Kept objects: the root, and whatever is still old in a kept row once its events are replayed.
   pub data Kept (l : Log) (da : Doc) : ℕ → Type 0 where
     root : Kept l da 0
     stays : {i : ℕ} → Kept l da i → (a : Obj) → find da i ≡ some a → (ρ : Row (List U) (Item Tag)) → replayed l a ≡ Ok ρ → (r : Ref) → In (old r) (refs ρ) → Kept l da (refRank r)

@@ -26,7 +26,7 @@ pub record Log : Type 0 where
   pub events : List Event
   pub exposed : List ObjId
 
--- One count of accepted calls for all callers.
+-- How many calls the log has accepted.
 abbrev pub callCount : Log → ℕ
 callCount l = length (l .events)
 

@@ -37,23 +37,23 @@ abbrev pub arranged : List Event → List Event
 arranged [] = []
 arranged (e ∷ es) = arrange e (arranged es)
 
--- An object written out: a text as one splice at 0, even when empty; a list as inserts; a map or table as puts in key order.
+-- An object written out, as calls that fill an empty one: an insert for each element of a list.
 abbrev pub inserts : ObjId → ℕ → List Entry → List Event
 inserts o i [] = []
 inserts o i (e ∷ es) = record { on = o; does = insertCall i e } ∷ inserts o (suc i) es
 
--- A map's entries as puts.
+-- A put for each key of a map or table.
 abbrev pub puts : ObjId → List (Key × Entry) → List Event
 puts o [] = []
 puts o (x ∷ xs) = record { on = o; does = putCall (key (x .0)) (x .1) } ∷ puts o xs
 
--- Any row.
+-- Any row; a text takes one splice, also if it has nothing in it.
 abbrev pub written : ObjId → DocRow → List Event
 written o (mapOf m) = puts o m
 written o (listOf l) = inserts o 0 l
 written o (textOf t) = record { on = o; does = spliceCall 0 t } ∷ []
 
--- An identity that is no object is passed over.
+-- Of an identity that is no object, nothing is written out.
 abbrev pub wrote : Option Obj → List Event
 wrote none = []
 wrote (some o) = written (o .ident) (o .row)
@@ -72,7 +72,7 @@ abbrev pub queueAll : List ℕ → List ℕ → List ℕ
 queueAll [] q = q
 queueAll (x ∷ xs) q = queueIn x (queueAll xs q)
 
--- The calls that the events and the queue give: an identity of the queue that is lower than the next event's object is written out before it, lowest first; an event whose object is lowest in the queue is skipped; after the events the rest is written out.
+-- Queue and events are taken together by rising identity. Where the queue is lower, or no event is left, its first is written out. Where both name the same object, the event is dropped: writing the object out will tell all. Else the event is a call.
 -- Each line uses up an event or an identity, of which there are n at most.
 abbrev pub turns : ℕ → Doc → List ℕ → List Event → List Event
 turns zero d q es = []

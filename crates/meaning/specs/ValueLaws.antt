@@ -38,7 +38,7 @@ module _ {U : Type 0} (units : List ℕ → List U) where
     pub unique : (d : Doc) → Lawful d → (f : ℕ → Value U) → TellsValues d f → f 0 ≡ value units d
     pub bounded : (d : Doc) → Lawful d → fits (value units d) ≡ true
 
--- Of a batch, the patches before the first refused one are applied, and the refused one does nothing.
+-- A batch is applied up to the first patch that is refused, and that one changes nothing.
 pub record BatchLaw {U : Type 0} (f : Patch U → Value U → Answer (Value U)) : Type 0 where
   pub answer : (ps : List (Patch U)) (v : Value U) → applied f ps v .answer ≡ applyAll f ps v
   pub before : (ps : List (Patch U)) (v : Value U) → applyAll f (take (applied f ps v .count) ps) v ≡ Ok (applied f ps v .value)

@@ -1,4 +1,4 @@
--- The value of a screen: a tree of maps, lists and texts. Two values are equal, as terms, where they agree in containers, keys, positions, scalars, flags and units.
+-- The value of a screen: a tree of maps, lists and texts. Values are equal if they are the same tree, down to each flag and unit; they hold no identities.
 use mathlib.Core.List.{List, [], _∷_}
 use mathlib.Core.Bool.{Bool, _&&_}
 use Prim.Native.Nat.{ℕ, _+_}
@@ -68,7 +68,7 @@ module _ {U : Type 0} where
   rowOf (listV l) = listOf (cellList l)
   rowOf (textV us) = textOf us
 
-  -- A placed object starts empty, a table as a map.
+  -- What a screen shows of an object just placed: nothing in it yet, and a table as a map.
   abbrev pub bare : ObjType → Value U
   bare Map = built (mapOf [])
   bare Table = built (mapOf [])

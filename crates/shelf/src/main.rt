@@ -1,82 +1,61 @@
-// The program of the shelf. Today it reads a file of lines and tells of each
-// whether it is UTF-8 and, if so, its units in each kind of unit.
-use std::alloc::Global;
+// The program of the shelf. Its arguments are files, each shown as the word
+// before it says: `lines FILE` tells of each line whether it is UTF-8, and its
+// units; `record FILE` opens a record and prints its document as a tree.
+mod lines;
+mod tree;
+
+use lines::show_lines;
+use record::record::RecordDocument;
+use record::record::ShelfRecord;
 use std::env;
 use std::error::AnyError;
 use std::fs;
-use text_value::CodePoint;
-use text_value::CodePointText;
-use text_value::TextValue;
-use text_value::Utf8;
-use text_value::Utf8Text;
-use text_value::as_text;
+use tree::show_document;
+use types::error::RefusalDebug;
+
+// How the next files are shown.
+#[derive(Clone, Copy)]
+enum Shown {
+    Lines,
+    Record,
+}
 
 fn main(rt: LibcRuntime) -> Result<(), AnyError> {
     rt.report(run(&rt))
 }
 
 fn run(rt: &LibcRuntime) -> Result<(), AnyError> {
-    let Some(path) = env::args(rt)?.nth(1) else {
-        return Err("usage: shelf FILE".into());
-    };
-    let bytes = fs::read(rt, path.as_str())?;
-    show_lines(rt, bytes.as_slice())
-}
-
-// Each line of the file; what follows the last line feed is a line if there is any.
-fn show_lines(rt: &LibcRuntime, bytes: &[u8]) -> Result<(), AnyError> {
-    let mut number = 1u64;
-    let mut start = 0;
-    for (i, b) in bytes.iter().enumerate() {
-        if *b == b'\n' {
-            show_line(rt, number, &bytes[start..i])?;
-            number = number.saturating_add(1);
-            start = i + 1;
+    let mut shown = Shown::Lines;
+    for word in env::args(rt)?.skip(1) {
+        match word.as_str() {
+            "lines" => shown = Shown::Lines,
+            "record" => shown = Shown::Record,
+            path => show_file(rt, shown, path)?,
         }
-    }
-    if start < bytes.len() {
-        show_line(rt, number, &bytes[start..bytes.len()])?;
     }
     Ok(())
 }
 
-// One line: its number, and its units or that it is no text.
-fn show_line(rt: &LibcRuntime, number: u64, line: &[u8]) -> Result<(), AnyError> {
-    match as_text(line) {
-        Some(text) => {
-            println!(rt, "line {number}: UTF-8")?;
-            show_bytes(rt, text)?;
-            show_code_points(rt, text)
+fn show_file(rt: &LibcRuntime, shown: Shown, path: &str) -> Result<(), AnyError> {
+    let bytes = fs::read(rt, path)?;
+    match shown {
+        Shown::Lines => show_lines(rt, bytes.as_slice()),
+        Shown::Record => show_record(rt, path, bytes.as_slice()),
+    }
+}
+
+// The record's document, or why it is refused.
+fn show_record(rt: &LibcRuntime, path: &str, bytes: &[u8]) -> Result<(), AnyError> {
+    let mut record = ShelfRecord::bare_root();
+    match record.open(bytes) {
+        Ok(()) => {
+            println!(rt, "{path}: a document")?;
+            show_document(rt, &record)
         }
-        None => {
-            println!(rt, "line {number}: not UTF-8")?;
+        Err(refusal) => {
+            let number = refusal.number();
+            println!(rt, "{path}: refused by {number}, {refusal:?}")?;
             Ok(())
         }
     }
-}
-
-fn show_bytes(rt: &LibcRuntime, text: &str) -> Result<(), AnyError> {
-    let width = Utf8::width(text);
-    let mut places = vec![in rt.alloc(); 0u8; width]?;
-    if let Some(n) = Utf8::write_units(text, places.as_mut_slice()) {
-        print!(rt, "  {n} bytes:")?;
-        for unit in places.iter() {
-            print!(rt, " {unit:02X}")?;
-        }
-        println!(rt)?;
-    }
-    Ok(())
-}
-
-fn show_code_points(rt: &LibcRuntime, text: &str) -> Result<(), AnyError> {
-    let width = CodePoint::width(text);
-    let mut places = vec![in rt.alloc(); 0u32; width]?;
-    if let Some(n) = CodePoint::write_units(text, places.as_mut_slice()) {
-        print!(rt, "  {n} code points:")?;
-        for unit in places.iter() {
-            print!(rt, " {unit:04X}")?;
-        }
-        println!(rt)?;
-    }
-    Ok(())
 }

@@ -1,0 +1,10 @@
+pub mod Views
+pub mod Places
+pub mod Laws
+pub mod Judged
+pub mod Lawful
+pub mod Steps
+pub mod Nothing
+pub mod Room
+pub mod Marks
+pub mod Paths

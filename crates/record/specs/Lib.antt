@@ -1,0 +1,4 @@
+pub mod Index
+pub mod Reading
+pub mod Told
+pub mod Opening

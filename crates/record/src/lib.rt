@@ -1,0 +1,3 @@
+mod index;
+pub mod record;
+mod scan;

@@ -1,0 +1,5 @@
+pub mod Basics
+pub mod Laws
+pub mod Codes
+pub mod Contents
+pub mod Records

@@ -1,0 +1,4 @@
+pub mod Codec
+pub mod Layout
+pub mod Seen
+pub mod Theorems

@@ -1,0 +1,3 @@
+mod entry_type;
+pub mod limit;
+pub mod read;

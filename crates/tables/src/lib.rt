@@ -1,0 +1,7 @@
+mod places;
+mod rows;
+pub mod shelf;
+pub mod table;
+#[cfg(test)]
+mod tests;
+mod windows;
