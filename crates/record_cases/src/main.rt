@@ -49,7 +49,11 @@ fn show_answer(rt: &LibcRuntime, bytes: &[u8]) -> Result<(), AnyError> {
     let mut record = ShelfRecord::bare_root();
     match record.open(bytes) {
         Ok(()) => {
-            let Tallied { objects, entries, text } = tally(&record, ObjId::root(), DOCUMENT_OBJECTS);
+            let Tallied {
+                objects,
+                entries,
+                text,
+            } = tally(&record, ObjId::root(), DOCUMENT_OBJECTS);
             println!(rt, "ok {objects} {entries} {text}")?;
         }
         Err(refusal) => {
@@ -81,12 +85,24 @@ impl Tallied {
 // What an object and all below it have; there are at most `left` levels more.
 fn tally<D: Document>(doc: &D, id: ObjId, left: usize) -> Tallied {
     if left == 0 {
-        return Tallied { objects: 0, entries: 0, text: 0 };
+        return Tallied {
+            objects: 0,
+            entries: 0,
+            text: 0,
+        };
     }
     if let Some(bytes) = doc.text(id) {
-        return Tallied { objects: 1, entries: 0, text: bytes.len() };
+        return Tallied {
+            objects: 1,
+            entries: 0,
+            text: bytes.len(),
+        };
     }
-    let mut all = Tallied { objects: 1, entries: doc.size(id), text: 0 };
+    let mut all = Tallied {
+        objects: 1,
+        entries: doc.size(id),
+        text: 0,
+    };
     for n in 0..doc.size(id) {
         if let Some(entry) = doc.entry(id, n) {
             if let Value::Object(_) = entry.value {

@@ -16,7 +16,12 @@ pub fn show_document<D: Document>(rt: &LibcRuntime, doc: &D) -> Result<(), AnyEr
 
 // The rows below an object; there are at most `left` levels more, since each
 // level has an object of its own.
-fn show_object<D: Document>(rt: &LibcRuntime, doc: &D, id: ObjId, left: usize) -> Result<(), AnyError> {
+fn show_object<D: Document>(
+    rt: &LibcRuntime,
+    doc: &D,
+    id: ObjId,
+    left: usize,
+) -> Result<(), AnyError> {
     if left == 0 {
         return Ok(());
     }
