@@ -37,11 +37,17 @@ pub impl TotalOrder for ObjIdOrder as ByObjId {
     }
 }
 
+fn cmp_bytes(a: &[u8], b: &[u8]) -> Ordering
+    ensures { λ r. ⌜ r ≡ byBytes .compare (now (a .entry)) (now (b .entry)) ⌝ }
+{
+    a.cmp(&b)
+}
+
 // Two keys by their bytes.
 pub fn compare_keys(a: &[u8], b: &[u8]) -> Ordering
     ensures { λ r. ⌜ r ≡ byBytes .compare (now (a .entry)) (now (b .entry)) ⌝ }
 {
-    a.cmp(&b)
+    cmp_bytes(a, b)
 }
 
 // Keys that lie in packed rows of bytes: an item is the number of its row. The number SOUGHT

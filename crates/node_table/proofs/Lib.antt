@@ -1,0 +1,12 @@
+pub mod Sums
+pub mod Inserts
+pub mod Wipes
+pub mod Removes
+pub mod Touches
+pub mod Counters
+pub mod Refills
+pub mod Resets
+pub mod KeyOrder
+pub mod Finds
+pub mod Bridges
+pub mod Counting

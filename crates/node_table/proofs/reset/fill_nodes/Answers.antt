@@ -1,0 +1,18 @@
+use borrow.Author.Count.{below-more}
+use native.Mathlib.Omega.{arith}
+use mathlib.Core.Path.{_∙_}
+use mathlib.Core.Logic.{_≢_}
+use Prim.Native.Nat.{_<_}
+use lib.ListN.{length}
+use lib.Seq.{getD-set-same, getD-set-other}
+use Rattle.node_chains.specs.Chains.{noItem, blank}
+use Rattle.node_table.proofs.reset.fill_nodes.Needs as need
+
+pub loop-j-again : need.loop-j-again
+loop-j-again c =
+    below-more _ _
+    (λ k h.
+    let ne : k ≢ c .loop-j .j = omega arith in
+    getD-set-other (c .loop-j .nodes) (c .loop-j .j) k (record { item = noItem; parent = c .args .f; depth = 1 }) blank ne ∙ c .loop-j .inv k h)
+    (let lt : c .loop-j .j < length (c .loop-j .nodes) = omega arith in
+    getD-set-same (c .loop-j .nodes) (c .loop-j .j) (record { item = noItem; parent = c .args .f; depth = 1 }) blank lt)

@@ -1,0 +1,9 @@
+pub mod Rows
+pub mod Told
+pub mod Made
+pub mod Sound
+pub mod Held
+pub mod Walk
+pub mod Taken
+pub mod Edits
+pub mod Tails
