@@ -1,6 +1,8 @@
 // Times the two documents: opening a full record, and asking for entries
 // through the interface. Times differ from run to run, so they go to standard
 // error.
+#![tactic(auto)]
+
 use anyhow::anyhow;
 use document::document::Document;
 use record::record::ShelfRecord;

@@ -1,5 +1,7 @@
 // What patches and screens mean, and the laws that the product exists for. No
 // function here computes anything: each stands for the theorem in its contract.
+#![tactic(auto)]
+
 ghost use Rattle.meaning.specs.Application.{apply_patch};
 ghost use Rattle.meaning.specs.Examples.{WorkedCases, LawsAreNeeded};
 ghost use Rattle.meaning.specs.Joining.{JoiningLaw};

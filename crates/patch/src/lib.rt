@@ -1,4 +1,6 @@
 // The memory that patches lie in, and the receipt for a batch of them.
+#![tactic(auto)]
+
 pub mod batch;
 mod ends;
 mod making;

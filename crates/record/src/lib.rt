@@ -1,3 +1,5 @@
+#![tactic(auto)]
+
 mod index;
 pub mod record;
 mod scan;

@@ -1,5 +1,7 @@
 // Opens records that come as lines of hex digits, and prints for each the
 // refusal's number, or what is reached from the root.
+#![tactic(auto)]
+
 use document::document::Document;
 use record::record::ShelfRecord;
 use std::alloc::{AllocError, Global};

@@ -1,3 +1,5 @@
+#![tactic(auto)]
+
 mod entry_type;
 pub mod limit;
 pub mod read;

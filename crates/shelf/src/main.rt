@@ -1,6 +1,8 @@
 // The program of the shelf. Its arguments are files, each shown as the word
 // before it says: `lines FILE` tells of each line whether it is UTF-8, and its
 // units; `record FILE` opens a record and prints its document as a tree.
+#![tactic(auto)]
+
 mod lines;
 mod tree;
 

@@ -2,8 +2,7 @@
 use Rattle.std.specs.Prelude.{◌≡◌, ℕ, zero, suc, ◌+◌, ◌-◌, ◌*◌, ◌≤◌, Bool, true, false, List, [], ◌∷◌, ◌++◌, length, is_ok, IfOk, Ok, Err, IsUtf8 as Utf8, Decides, Result, MatchResult, refl}
 use Rattle.std.proofs.Common.{sym, ◌∙◌, ap, subst, arith, lit≤}
 use Rattle.std.proofs.Math.Utf8.{scalar, scalars, encode, encodes}
-use Rattle.std.specs.Str.{chars, bytes_eq}
-use Rattle.std.specs.shelf.Text.{chars_after, bytes_after, lead_bits}
+use Rattle.std.specs.Str.{chars, bytes_eq, chars_after, continuation_len, lead_bits}
 use Rattle.std.proofs.lemmas.Str.{chars-append, chars_past_char, encodes-chars, scalars-chars, chars_from_encodes}
 use Rattle.std.proofs.lemmas.Bool.Decides.{nat_tests}
 use Rattle.std.proofs.lemmas.Bool.{and_parts, and_from}
@@ -113,11 +112,11 @@ points_same xs ys h k e =
 
 after_fewer : (n c : ℕ) (bs : List ℕ) → length (chars_after n c bs) ≤ 1 + length bs
 after_fewer zero c [] = lit≤ tt
-after_fewer zero c (b ∷ bs) = omega (arith, after_fewer (bytes_after b) (lead_bits b) bs)
+after_fewer zero c (b ∷ bs) = omega (arith, after_fewer (continuation_len b) (lead_bits b) bs)
 after_fewer (suc n) c [] = omega arith
 after_fewer (suc n) c (b ∷ bs) = omega (arith, after_fewer n (c * 64 + (b - 128)) bs)
 
 -- Any bytes have at most as many code points as there are bytes.
 pub points_fewer : (bs : List ℕ) → length (code_points bs) ≤ length bs
 points_fewer [] = lit≤ tt
-points_fewer (b ∷ bs) = omega (arith, after_fewer (bytes_after b) (lead_bits b) bs)
+points_fewer (b ∷ bs) = omega (arith, after_fewer (continuation_len b) (lead_bits b) bs)

@@ -1,7 +1,6 @@
 -- UTF-8 as RFC 3629 defines it. Octets and character numbers are plain numbers.
 use Rattle.std.specs.Prelude.{◌≡◌, ℕ, ◌+◌, ◌/◌, ◌%◌, ◌^◌, Bool, true, false, cond, not, ◌&&◌, List, [], ◌∷◌, ◌++◌, nat_le}
-use Rattle.std.specs.shelf.Text.{bytes_after, lead_bits, chars_after}
-use Rattle.std.specs.Str.{bytes_eq}
+use Rattle.std.specs.Str.{continuation_len, lead_bits, chars_after, bytes_eq}
 
 -- The form of an octet: its fixed bits with every x bit 0, and how many x bits it ends in.
 pub data Octet : Type 0 where
@@ -69,7 +68,7 @@ IsUtf8 bs = (cs : List ℕ) × Encodes cs bs
 -- The code points of a UTF-8 text: the x bits of each lead octet and of those that follow it, put together again.
 abbrev pub code_points : List ℕ → List ℕ
 code_points [] = []
-code_points (b ∷ bs) = chars_after (bytes_after b) (lead_bits b) bs
+code_points (b ∷ bs) = chars_after (continuation_len b) (lead_bits b) bs
 
 -- UTF-8 as a test: what the bytes read as are characters, and these are written as the same bytes.
 unfoldable pub utf8 : List ℕ → Bool

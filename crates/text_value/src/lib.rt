@@ -1,4 +1,6 @@
 // What a text is: UTF-8 as RFC 3629 defines it, and its units in the kind that a screen counts in.
+#![tactic(auto)]
+
 mod bytes;
 mod code_point;
 

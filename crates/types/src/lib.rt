@@ -1,3 +1,5 @@
+#![tactic(auto)]
+
 pub mod bounds;
 pub mod error;
 pub mod types;

@@ -1,4 +1,6 @@
 // The lent memory of a screen's value: the tables of its nodes as one struct, and the changes of the tree in it.
+#![tactic(auto)]
+
 mod edits;
 mod lent;
 mod reads;

@@ -1,4 +1,6 @@
 // Trees of entries and the values that they stand for: what each action on a value does to its tree.
+#![tactic(auto)]
+
 pub mod laws;
 
 ghost use Rattle.value_tree.specs.Acts.{MapsAgree, ListsAgree, TextsAgree};

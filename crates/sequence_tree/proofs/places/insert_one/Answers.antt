@@ -6,12 +6,12 @@ pub returns : goal.returns
 returns g c =
     put_is
     c.args.s.now
-    c.make-room.new.s
+    c.make_room.new.s
     c.args.x
     c.args.n
     c.args.at
     c.requires.0
     c.requires.1
-    c.make-room.auto.s
-    c.make-room.ensures.below
-    c.make-room.ensures.tail
+    c.make_room.auto.s
+    c.make_room.ensures.below
+    c.make_room.ensures.tail

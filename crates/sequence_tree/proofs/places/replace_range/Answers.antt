@@ -7,9 +7,9 @@ pub returns : goal.returns
 returns g c =
     let parts : Replaced c.args.s.now c.loop-i.s c.args.n c.args.at c.args.k c.args.xs.now =
     record {
-      below = λ j d h. c.loop-i.invariant.0 j d h ∙ c.make-room.ensures.below j d h;
+      below = λ j d h. c.loop-i.invariant.0 j d h ∙ c.make_room.ensures.below j d h;
       here = λ j d h. c.loop-i.invariant.1 j d (omega arith);
-      tail = λ j d h. c.loop-i.invariant.2 _ d (omega arith) ∙ c.make-room.ensures.tail j d h;
+      tail = λ j d h. c.loop-i.invariant.2 _ d (omega arith) ∙ c.make_room.ensures.tail j d h;
     }
     in
     record {

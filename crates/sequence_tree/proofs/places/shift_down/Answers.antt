@@ -7,16 +7,16 @@ pub loop-low-preserved : goal.loop-low-preserved
 loop-low-preserved g c = (
   omega arith,
   omega arith,
-  (λ j d h. c.move-block.ensures.below j d (omega arith) ∙ c.loop-low.invariant.2 j d h),
+  (λ j d h. c.move_block.ensures.below j d (omega arith) ∙ c.loop-low.invariant.2 j d h),
   (λ j d lo hi.
       grind (
         arith,
-        c.move-block.ensures.moved (j - c.loop-low.low) d,
-        c.move-block.ensures.below j d,
+        c.move_block.ensures.moved (j - c.loop-low.low) d,
+        c.move_block.ensures.below j d,
         c.loop-low.invariant.3 j d,
         c.loop-low.invariant.4 (j + c.args.by) d,
       )),
-  (λ j d h. c.move-block.ensures.above j d h ∙ c.loop-low.invariant.4 j d (omega arith)),
+  (λ j d h. c.move_block.ensures.above j d h ∙ c.loop-low.invariant.4 j d (omega arith)),
 )
 
 pub loop-k-preserved : goal.loop-k-preserved
