@@ -70,7 +70,7 @@ impl<'m, T: Copy> PackedRows<'m, T> {
         ensures answer { result ≡ row_splicing self.old i at k (length xs.now) }
         ensures here { row_of self.new i ≡ (if is_ok result then spliced (row_of self.old i) at k xs.now else row_of self.old i) }
         ensures others { (j : ℕ) → (j ≢ i) → row_of self.new j ≡ row_of self.old j }
-        ensures used { used_in self.new + cond (is_ok result) k 0 ≡ used_in self.old + cond (is_ok result) (length xs.now) 0 }
+        ensures used { used_in self.new + (if is_ok result then k else 0) ≡ used_in self.old + (if is_ok result then length xs.now else 0) }
         ensures rows { row_count self.new ≡ row_count self.old }
         ensures room { room_in self.new ≡ room_in self.old }
     {

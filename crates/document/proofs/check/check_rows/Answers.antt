@@ -6,6 +6,6 @@ pub returns : goal.returns
 returns g c =
     let t = test_is_laws (g.R.Rows.shaped c.args.rows.now).doc in
     record {
-      test = c.keeps-laws.ensures;
-      laws = (λ h. t.0 (sym c.keeps-laws.ensures ∙ h), λ h. c.keeps-laws.ensures ∙ t.1 h);
+      test = c.keeps_laws.ensures;
+      laws = (λ h. t.0 (sym c.keeps_laws.ensures ∙ h), λ h. c.keeps_laws.ensures ∙ t.1 h);
     }

@@ -2,8 +2,8 @@ use Rattle.std.proofs.Common.{arith}
 use Rattle.document.proofs.Counting.{counts_on, counts_off, counts_all}
 use Rattle.document.proofs.counts.check_counts.Goals as goal
 
-pub returns-in-default : goal.returns-in-default
-returns-in-default g c = counts_off (g.R.Rows.shaped c.args.rows.now).doc c.loop-i.i c.loop-i.room c.loop-i.invariant c.in-default.ensures
+pub returns-in_default : goal.returns-in_default
+returns-in_default g c = counts_off (g.R.Rows.shaped c.args.rows.now).doc c.loop-i.i c.loop-i.room c.loop-i.invariant c.in_default.ensures
 
 pub loop-i-preserved : goal.loop-i-preserved
 loop-i-preserved g c = counts_on (g.R.Rows.shaped c.args.rows.now).doc c.loop-i.i c.loop-i.room c.loop-i.invariant c.in-Some.next c.in-Some.ensures

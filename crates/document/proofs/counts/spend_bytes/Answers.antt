@@ -6,10 +6,10 @@ use Rattle.document.proofs.Pairs.{entry_is, pairs_size}
 use Rattle.document.proofs.Counting.{left_some, left_none, left_is, left_not, bytes_step, bytes_end, bytes_told}
 use Rattle.document.proofs.counts.spend_bytes.Goals as goal
 
-pub returns-in-default : goal.returns-in-default
-returns-in-default g c =
+pub returns-in_default : goal.returns-in_default
+returns-in_default g c =
     let x = nth (g.R.Rows.shaped c.args.rows.now).doc c.args.i in
-    let a = left_none c.loop-n.left (pair_bytes (entry_told x c.loop-n.n)) c.in-default.ensures in
+    let a = left_none c.loop-n.left (pair_bytes (entry_told x c.loop-n.n)) c.in_default.ensures in
     let b = ap pair_bytes (entry_is x c.loop-n.n) in
     left_not c.args.room (counts_told x).byte_count (omega (arith, a, b, bytes_step (pairs_told x) c.loop-n.n, bytes_told x, c.loop-n.invariant))
 

@@ -5,12 +5,12 @@ use Rattle.document.specs.declared.view.Head.{Head}
 use Rattle.document.proofs.Search.{head_is, head_there, lower, upper, hit, missed}
 use Rattle.document.proofs.find.find_in.Goals as goal
 
-pub returns-in-default : goal.returns-in-default
-returns-in-default g c =
+pub returns-in_default : goal.returns-in_default
+returns-in_default g c =
     let d = (g.R.Rows.shaped c.args.rows.now).doc in
     let mid = c.loop-lo.lo + (c.loop-lo.hi - c.loop-lo.lo) / 2 in
     let lt : mid < length d = omega (arith, c.loop-lo.invariant.1, c.loop-lo-test.true) in
-    absurd (head_there d mid lt c.in-default.ensures)
+    absurd (head_there d mid lt c.in_default.ensures)
 
 pub loop-lo-preserved-then-before : goal.loop-lo-preserved-then-before
 loop-lo-preserved-then-before g c =

@@ -8,13 +8,13 @@ use Rattle.document.proofs.Pairs.{entry_is, pairs_size}
 use Rattle.document.proofs.Marking.{begins, goes_on, stops, all_named, later}
 use Rattle.document.proofs.names.check_names.Goals as goal
 
-pub returns-then-not-enter-at : goal.returns-then-not-enter-at
-returns-then-not-enter-at g c =
+pub returns-then-not-enter_at : goal.returns-then-not-enter_at
+returns-then-not-enter_at g c =
     let d = (g.R.Rows.shaped c.args.rows.now).doc in
     let x = nth d c.args.i in
     record {
-      test = stops d (rank c.args.owner) (pairs_told x) c.loop-n.n c.loop-n.marks c.loop-n.invariant c.enter-at.new.marks c.enter-at.result
-          (subst (λ p. Enters d (rank c.args.owner) c.loop-n.invariant.seen (refs_at p) c.enter-at.new.marks c.enter-at.result) (entry_is x c.loop-n.n) (c.enter-at.ensures c.loop-n.invariant.seen c.loop-n.invariant.marked)) c.if-not-enter-at.true;
+      test = stops d (rank c.args.owner) (pairs_told x) c.loop-n.n c.loop-n.marks c.loop-n.invariant c.enter_at.new.marks c.enter_at.result
+          (subst (λ p. Enters d (rank c.args.owner) c.loop-n.invariant.seen (refs_at p) c.enter_at.new.marks c.enter_at.result) (entry_is x c.loop-n.n) (c.enter_at.ensures c.loop-n.invariant.seen c.loop-n.invariant.marked)) c.if-not-enter_at.true;
       later = λ h. absurd (false≢true h);
     }
 
@@ -22,8 +22,8 @@ pub loop-n-preserved : goal.loop-n-preserved
 loop-n-preserved g c =
     let d = (g.R.Rows.shaped c.args.rows.now).doc in
     let x = nth d c.args.i in
-    goes_on d (rank c.args.owner) (pairs_told x) c.loop-n.n c.loop-n.marks c.loop-n.invariant c.enter-at.new.marks c.enter-at.result
-    (subst (λ p. Enters d (rank c.args.owner) c.loop-n.invariant.seen (refs_at p) c.enter-at.new.marks c.enter-at.result) (entry_is x c.loop-n.n) (c.enter-at.ensures c.loop-n.invariant.seen c.loop-n.invariant.marked)) c.if-not-enter-at.false
+    goes_on d (rank c.args.owner) (pairs_told x) c.loop-n.n c.loop-n.marks c.loop-n.invariant c.enter_at.new.marks c.enter_at.result
+    (subst (λ p. Enters d (rank c.args.owner) c.loop-n.invariant.seen (refs_at p) c.enter_at.new.marks c.enter_at.result) (entry_is x c.loop-n.n) (c.enter_at.ensures c.loop-n.invariant.seen c.loop-n.invariant.marked)) c.if-not-enter_at.false
 
 pub loop-n-init : goal.loop-n-init
 loop-n-init g c = begins (g.R.Rows.shaped c.args.rows.now).doc (rank c.args.owner) (pairs_told (nth (g.R.Rows.shaped c.args.rows.now).doc c.args.i)) c.args.marks.now c.requires.none

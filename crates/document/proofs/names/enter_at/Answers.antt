@@ -6,7 +6,7 @@ use Rattle.document.proofs.names.enter_at.Goals as goal
 
 pub returns-in-Some : goal.returns-in-Some
 returns-in-Some g c seen so =
-    subst (λ p. Enters (g.R.Rows.shaped c.args.rows.now).doc (rank c.args.owner) seen (refs_at p) c.enter-entry.new.marks c.enter-entry.result) c.in-Some.ensures (c.enter-entry.ensures seen so)
+    subst (λ p. Enters (g.R.Rows.shaped c.args.rows.now).doc (rank c.args.owner) seen (refs_at p) c.enter_entry.new.marks c.enter_entry.result) c.in-Some.ensures (c.enter_entry.ensures seen so)
 
 pub returns-in-None : goal.returns-in-None
 returns-in-None g c seen so =

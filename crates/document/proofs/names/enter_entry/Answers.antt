@@ -9,7 +9,7 @@ use Rattle.document.proofs.names.enter_entry.Goals as goal
 
 pub returns-in-Object : goal.returns-in-Object
 returns-in-Object g c seen so =
-    subst (λ (v : Value). Enters (g.R.Rows.shaped c.args.rows.now).doc (rank c.args.owner) seen (ref_of (content_seen v) c.args.e.id) c.enter-object.new.marks c.enter-object.result) (sym c.in-Object.is) (c.enter-object.ensures seen so)
+    subst (λ (v : Value). Enters (g.R.Rows.shaped c.args.rows.now).doc (rank c.args.owner) seen (ref_of (content_seen v) c.args.e.id) c.enter_object.new.marks c.enter_object.result) (sym c.in-Object.is) (c.enter_object.ensures seen so)
 
 pub returns-in-Scalar : goal.returns-in-Scalar
 returns-in-Scalar g c seen so =

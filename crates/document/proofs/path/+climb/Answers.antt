@@ -14,20 +14,20 @@ returns-then-same g t c =
     let d = g.D.Document.rows c.args.doc.now in
     ([], path_root d.doc d.lawful c.args.id (eqb-true _ _ (sym c.if-same.ensures) ∙ ap (λ (o : ObjId). rank o) c.root.ensures), refl, none_written d.doc c.args.steps.now)
 
-pub overflow-add-result : goal.overflow-add-result
-overflow-add-result g t c =
+pub overflow_add-result : goal.overflow_add-result
+overflow_add-result g t c =
     let d = g.D.Document.rows c.args.doc.now in
-    let w = c.in-ok-k.ensures in
-    let l = path_length d.doc d.lawful c.in-ok-step.step.leaves w.0 w.1 in
-    omega (arith, l, w.2, c.in-ok-step.ensures.0)
+    let w = c.in_ok-k.ensures in
+    let l = path_length d.doc d.lawful c.in_ok-step.step.leaves w.0 w.1 in
+    omega (arith, l, w.2, c.in_ok-step.ensures.0)
 
 pub returns : goal.returns
 returns g t c =
     let d = (g.D.Document.rows c.args.doc.now).doc in
-    let w = c.in-ok-k.ensures in
-    let s = c.in-ok-step.step in (
+    let w = c.in_ok-k.ensures in
+    let s = c.in_ok-step.step in (
       w.0 ++ (step_seen d s ∷ []),
-      c.in-ok-step.ensures.1 ∙ ap (map (λ p. p ++ (step_seen d s ∷ []))) w.1,
+      c.in_ok-step.ensures.1 ∙ ap (map (λ p. p ++ (step_seen d s ∷ []))) w.1,
       omega (arith, w.2, length-append w.0 (step_seen d s ∷ [])),
       elim c.if-k-steps.branch [
         | then-k-steps v ↦

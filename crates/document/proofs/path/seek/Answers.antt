@@ -8,8 +8,8 @@ use Rattle.document.proofs.path.seek.Goals as goal
 pub loop-n-init : goal.loop-n-init
 loop-n-init g c = seek_begins (rank c.args.id) (find (g.D.Document.rows c.args.doc.now).doc (rank c.args.row))
 
-pub returns-in-default : goal.returns-in-default
-returns-in-default g c = c.loop-n.invariant ∙ seek_ends (rank c.args.id) c.loop-n.n (find (g.D.Document.rows c.args.doc.now).doc (rank c.args.row)) c.in-default.ensures
+pub returns-in_default : goal.returns-in_default
+returns-in_default g c = c.loop-n.invariant ∙ seek_ends (rank c.args.id) c.loop-n.n (find (g.D.Document.rows c.args.doc.now).doc (rank c.args.row)) c.in_default.ensures
 
 pub returns-then-names : goal.returns-then-names
 returns-then-names g c =

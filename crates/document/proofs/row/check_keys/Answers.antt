@@ -5,16 +5,16 @@ use Rattle.document.specs.Steps.{pairs_told}
 use Rattle.document.proofs.Pairs.{every_at, keys_told_lem}
 use Rattle.document.proofs.row.check_keys.Goals as goal
 
-pub returns-then-is-sequence : goal.returns-then-is-sequence
-returns-then-is-sequence g c =
+pub returns-then-is_sequence : goal.returns-then-is_sequence
+returns-then-is_sequence g c =
     let s = g.R.Rows.shaped c.args.rows.now in
     let x = nth s.doc c.args.i in
-    c.if-is-sequence.true
-    ∙ sym (keys_told_lem x c.in-Some.h (every_at ShapedObj s.doc c.args.i s.shapes) c.in-Some.ensures ∙ ap (λ b. b || chained key_before (pairs_told x)) (sym c.is-sequence.ensures ∙ c.if-is-sequence.true))
+    c.if-is_sequence.true
+    ∙ sym (keys_told_lem x c.in-Some.h (every_at ShapedObj s.doc c.args.i s.shapes) c.in-Some.ensures ∙ ap (λ b. b || chained key_before (pairs_told x)) (sym c.is_sequence.ensures ∙ c.if-is_sequence.true))
 
-pub returns-else-is-sequence : goal.returns-else-is-sequence
-returns-else-is-sequence g c =
+pub returns-else-is_sequence : goal.returns-else-is_sequence
+returns-else-is_sequence g c =
     let s = g.R.Rows.shaped c.args.rows.now in
     let x = nth s.doc c.args.i in
-    c.check-chain.ensures
-    ∙ sym (keys_told_lem x c.in-Some.h (every_at ShapedObj s.doc c.args.i s.shapes) c.in-Some.ensures ∙ ap (λ b. b || chained key_before (pairs_told x)) (sym c.is-sequence.ensures ∙ c.if-is-sequence.false))
+    c.check_chain.ensures
+    ∙ sym (keys_told_lem x c.in-Some.h (every_at ShapedObj s.doc c.args.i s.shapes) c.in-Some.ensures ∙ ap (λ b. b || chained key_before (pairs_told x)) (sym c.is_sequence.ensures ∙ c.if-is_sequence.false))

@@ -8,20 +8,20 @@ use Rattle.document.proofs.row.check_row.Goals as goal
 pub returns-in-Some : goal.returns-in-Some
 returns-in-Some g c =
     let s = g.R.Rows.shaped c.args.rows.now in
-    c.is-utf8.ensures.test ∙ row_text (nth s.doc c.args.i) c.in-Some.t.now (every_at ShapedObj s.doc c.args.i s.shapes) c.in-Some.ensures
+    c.is_utf8.ensures.test ∙ row_text (nth s.doc c.args.i) c.in-Some.t.now (every_at ShapedObj s.doc c.args.i s.shapes) c.in-Some.ensures
 
-pub returns-then-check-keys : goal.returns-then-check-keys
-returns-then-check-keys g c =
+pub returns-then-check_keys : goal.returns-then-check_keys
+returns-then-check_keys g c =
     let s = g.R.Rows.shaped c.args.rows.now in
     let x = nth s.doc c.args.i in
-    c.check-entries.ensures
-    ∙ (sym (ap (λ b. b && every good_pair (pairs_told x)) (sym c.check-keys.ensures ∙ c.if-check-keys.true))
+    c.check_entries.ensures
+    ∙ (sym (ap (λ b. b && every good_pair (pairs_told x)) (sym c.check_keys.ensures ∙ c.if-check_keys.true))
     ∙ row_other x (every_at ShapedObj s.doc c.args.i s.shapes) c.in-None.ensures)
 
-pub returns-else-check-keys : goal.returns-else-check-keys
-returns-else-check-keys g c =
+pub returns-else-check_keys : goal.returns-else-check_keys
+returns-else-check_keys g c =
     let s = g.R.Rows.shaped c.args.rows.now in
     let x = nth s.doc c.args.i in
-    c.if-check-keys.false
-    ∙ (sym (ap (λ b. b && every good_pair (pairs_told x)) (sym c.check-keys.ensures ∙ c.if-check-keys.false))
+    c.if-check_keys.false
+    ∙ (sym (ap (λ b. b && every good_pair (pairs_told x)) (sym c.check_keys.ensures ∙ c.if-check_keys.false))
     ∙ row_other x (every_at ShapedObj s.doc c.args.i s.shapes) c.in-None.ensures)

@@ -14,7 +14,7 @@ unlink-requires g c = record { lawful = c.requires.lawful.placing; inside = used
 pub wipe-requires : goal.wipe-requires
 wipe-requires g c = record {
   lawful = c.unlink.ensures.lawful;
-  inside = omega (arith, c.row-len-from.ensures, (unlinked_shrinks c.requires.lawful c.requires.child c.unlink.ensures.unlinked).longer);
+  inside = omega (arith, c.row_len-from.ensures, (unlinked_shrinks c.requires.lawful c.requires.child c.unlink.ensures.unlinked).longer);
   packed = c.requires.packed;
   rows = c.requires.rows;
   counted = c.requires.lawful.counted ∙ sym (below_same c.args.f (λ i. item_bytes (item_at c.args.nodes.now i)) (λ i. item_bytes (item_at c.unlink.new.nodes i)) (λ x l. ap item_bytes (c.unlink.ensures.unlinked.items x)));
@@ -23,7 +23,7 @@ wipe-requires g c = record {
 
 pub returns : goal.returns
 returns g c =
-    let W = wipe_from c.row-len-from.ensures c.wipe.ensures in
+    let W = wipe_from c.row_len-from.ensures c.wipe.ensures in
     record {
       lawful = used_less c.requires.lawful c.requires.used c.requires.child c.unlink.ensures.lawful c.unlink.ensures.unlinked W;
       packed = W.packed;

@@ -9,16 +9,16 @@ pub loop-low-preserved-in-Less : goal.loop-low-preserved-in-Less
 loop-low-preserved-in-Less c =
     low_up (key_of c.args.nodes.now c.args.keys.now) (row c.args.starts.now c.args.chain.now c.args.o) c.args.key.now c.loop-low.low c.loop-low.high (c.loop-low.low + (c.loop-low.high - c.loop-low.low) / 2)
     c.loop-low.invariant c.requires.rising (omega arith) (omega (arith, c.loop-low-test.true))
-    (ap (λ x. compare_keys x c.args.key.now) (sym (c.key-at.ensures ∙ ap (key_of c.args.nodes.now c.args.keys.now) c.child-at-c.ensures)) ∙ sym c.in-Less.ensures)
+    (ap (λ x. compare_keys x c.args.key.now) (sym (c.key_at.ensures ∙ ap (key_of c.args.nodes.now c.args.keys.now) c.child_at-c.ensures)) ∙ sym c.in-Less.ensures)
 
 pub returns-in-Equal : goal.returns-in-Equal
 returns-in-Equal c =
     found (key_of c.args.nodes.now c.args.keys.now) (row c.args.starts.now c.args.chain.now c.args.o) c.args.key.now c.loop-low.low c.loop-low.high (c.loop-low.low + (c.loop-low.high - c.loop-low.low) / 2)
     c.loop-low.invariant c.requires.rising (omega arith) (omega (arith, c.loop-low-test.true))
-    (ap (λ x. compare_keys x c.args.key.now) (sym (c.key-at.ensures ∙ ap (key_of c.args.nodes.now c.args.keys.now) c.child-at-c.ensures)) ∙ sym c.in-Equal.ensures)
+    (ap (λ x. compare_keys x c.args.key.now) (sym (c.key_at.ensures ∙ ap (key_of c.args.nodes.now c.args.keys.now) c.child_at-c.ensures)) ∙ sym c.in-Equal.ensures)
 
 pub loop-low-preserved : goal.loop-low-preserved
 loop-low-preserved c =
     high_down (key_of c.args.nodes.now c.args.keys.now) (row c.args.starts.now c.args.chain.now c.args.o) c.args.key.now c.loop-low.low c.loop-low.high (c.loop-low.low + (c.loop-low.high - c.loop-low.low) / 2)
     c.loop-low.invariant c.requires.rising (omega arith) (omega (arith, c.loop-low-test.true))
-    (ap (λ x. compare_keys x c.args.key.now) (sym (c.key-at.ensures ∙ ap (key_of c.args.nodes.now c.args.keys.now) c.child-at-c.ensures)) ∙ sym c.in-Greater.ensures)
+    (ap (λ x. compare_keys x c.args.key.now) (sym (c.key_at.ensures ∙ ap (key_of c.args.nodes.now c.args.keys.now) c.child_at-c.ensures)) ∙ sym c.in-Greater.ensures)

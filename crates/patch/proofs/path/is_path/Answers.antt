@@ -8,13 +8,13 @@ use Rattle.patch.proofs.path.is_path.Goals as goal
 none : StepRow
 none = record { leaves = record { 0 = record { counter = 0; actor = 0 } }; prop = Key 0 }
 
-pub returns-then-n-gt-KEY-BYTES : goal.returns-then-n-gt-KEY-BYTES
+pub returns-then-n-gt-KEY_BYTES : goal.returns-then-n-gt-KEY_BYTES
 unfolding none
-returns-then-n-gt-KEY-BYTES c = rows_refused c.args.steps.now c.loop-s.s-index c.prop-len-n.result c.loop-s.left none c.loop-s-test.true c.prop-len-n.ensures c.then-n-gt-KEY-BYTES.either ∙ sym c.loop-s.invariant
+returns-then-n-gt-KEY_BYTES c = rows_refused c.args.steps.now c.loop-s.s-index c.prop_len-n.result c.loop-s.left none c.loop-s-test.true c.prop_len-n.ensures c.then-n-gt-KEY_BYTES.either ∙ sym c.loop-s.invariant
 
 pub loop-s-preserved : goal.loop-s-preserved
 unfolding none
-loop-s-preserved c = c.loop-s.invariant ∙ rows_next c.args.steps.now c.loop-s.s-index c.prop-len-n.result c.loop-s.left none c.loop-s-test.true c.prop-len-n.ensures c.if-n-gt-KEY-BYTES.false c.if-n-left.false
+loop-s-preserved c = c.loop-s.invariant ∙ rows_next c.args.steps.now c.loop-s.s-index c.prop_len-n.result c.loop-s.left none c.loop-s-test.true c.prop_len-n.ensures c.if-n-gt-KEY_BYTES.false c.if-n-left.false
 
 pub returns : goal.returns
 returns c = sym (c.loop-s.invariant ∙ rows_end c.args.steps.now c.loop-s.s-index c.loop-s.left c.loop-s-test.false)

@@ -5,11 +5,11 @@ use Rattle.record_codec.proofs.Records.{law_slot}
 use Rattle.record.proofs.Indexing.{typed_bytes, starts_out, halted, finished, goes_on, shorter, slot_long}
 use Rattle.record.proofs.scan.scan_entries.Goals as goal
 
-pub returns-in-default : goal.returns-in-default
-returns-in-default c =
+pub returns-in_default : goal.returns-in_default
+returns-in_default c =
     let k = c.args.keyed in
     halted (get_slot k) (put_slot k) (WritableSlot k) (law_slot k) c.loop-i.i c.args.total c.args.from c.args.bytes.now c.args.places.now c.loop-i.places c.loop-i.rest.now c.loop-i.invariant.0 c.loop-i.invariant.1
-    c.args.count c.loop-i-test.true (sym c.in-default.ensures)
+    c.args.count c.loop-i-test.true (sym c.in_default.ensures)
 
 pub loop-i-preserved : goal.loop-i-preserved
 loop-i-preserved c =

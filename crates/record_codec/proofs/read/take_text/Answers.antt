@@ -6,9 +6,9 @@ use Rattle.record_codec.proofs.read.take_text.Goals as goal
 
 pub returns : goal.returns
 returns c =
-    let n = c.in-ok-n.n in
-    let r = c.in-ok-n.rest.now in
+    let n = c.in_ok-n.n in
+    let r = c.in_ok-n.rest.now in
     ap {B = Got (List ℕ)} (λ k. Some (take k r, take (length r - n) (drop n r))) {x = n - 0} {y = n} (omega arith)
     ∙ (ap {B = Got (List ℕ)} (λ s. Some (take n r, s)) (take_rest r n)
     ∙ (sym (get_bytes_some n r (omega arith))
-    ∙ ap (λ t. next t (λ m s. get_bytes m s)) c.in-ok-n.ensures))
+    ∙ ap (λ t. next t (λ m s. get_bytes m s)) c.in_ok-n.ensures))

@@ -1,4 +1,4 @@
 use Rattle.shelf.proofs.tree.+show_object.Given as goal
 
-abbrev pub decreases-show-object : goal.decreases-show-object
-decreases-show-object g l = l.left
+abbrev pub decreases-show_object : goal.decreases-show_object
+decreases-show_object g l = l.left

@@ -8,7 +8,7 @@ use Rattle.text_value.proofs.code_point.count_points.Goals.{then-b-lt128, then-b
 
 pub loop-b-preserved : goal.loop-b-preserved
 loop-b-preserved c =
-    let m = starts_more c.as-bytes-bytes.result.now c.loop-b.b-index c.loop-b-test.true in
+    let m = starts_more c.as_bytes-bytes.result.now c.loop-b.b-index c.loop-b-test.true in
     elim c.if-b-lt128.branch [
       | then-b-lt128 w ↦
           elim w.then-b-lt128.branch [
@@ -20,8 +20,8 @@ loop-b-preserved c =
 
 pub returns : goal.returns
 returns c =
-    let bs = c.as-bytes-bytes.result.now in
+    let bs = c.as_bytes-bytes.result.now in
     c.loop-b.invariant.0
     ∙ (ap starts (take_all c.loop-b.b-index bs c.loop-b-test.false)
-    ∙ (starts_points bs c.as-bytes-bytes.ensures.utf8
-    ∙ ap (λ xs. length (code_points xs)) c.as-bytes-bytes.ensures.value))
+    ∙ (starts_points bs c.as_bytes-bytes.ensures.utf8
+    ∙ ap (λ xs. length (code_points xs)) c.as_bytes-bytes.ensures.value))

@@ -5,11 +5,11 @@ use Rattle.value_memory.specs.Memory.{tables_of}
 use Rattle.value_memory.proofs.Touching.{touched_edits}
 use Rattle.value_memory.proofs.lent.flag_lent.Goals as goal
 
-pub set-conflict-requires : goal.set-conflict-requires
-set-conflict-requires g c = omega (arith, c.requires.sound.used.placing.count, used_high c.requires.sound.used c.requires.used)
+pub set_conflict-requires : goal.set_conflict-requires
+set_conflict-requires g c = omega (arith, c.requires.sound.used.placing.count, used_high c.requires.sound.used c.requires.used)
 
 pub returns : goal.returns
 returns g c =
     touched_edits flagged c.args.c
     (tables_of c.args.nodes.now c.args.starts.now c.args.chain.now c.args.keys.now c.args.strings.now c.args.begins.now c.args.units.now c.args.bytes.now)
-    _ c.requires.sound c.requires.below c.requires.used c.set-conflict.ensures
+    _ c.requires.sound c.requires.below c.requires.used c.set_conflict.ensures

@@ -2,8 +2,8 @@ use Rattle.std.proofs.Common.{◌≡◌, ◌^◌, ◌<◌, length, ◌∙◌, ar
 use Rattle.value_memory.specs.Memory.{units_at}
 use Rattle.value_memory.proofs.lent.insert_lent.Goals as goal
 
-pub insert-child-requires : goal.insert-child-requires
-insert-child-requires g c =
+pub insert_child-requires : goal.insert_child-requires
+insert_child-requires g c =
     let S = c.requires.sound in
     record {
       lawful = S.used;
@@ -20,7 +20,7 @@ insert-child-requires g c =
 pub returns : goal.returns
 returns g c =
     let S = c.requires.sound in
-    let E = c.insert-child.ensures in
+    let E = c.insert_child.ensures in
     record {
       edited = record {
         sound = record {
@@ -28,9 +28,9 @@ returns g c =
           dry = E.dry _ S.dry;
           packed = S.packed;
           spelled = S.spelled;
-          chains = c.insert-child.auto.chain ∙ S.chains;
-          key_slots = c.insert-child.auto.keys ∙ S.key_slots;
-          string_slots = c.insert-child.auto.strings ∙ S.string_slots;
+          chains = c.insert_child.auto.chain ∙ S.chains;
+          key_slots = c.insert_child.auto.keys ∙ S.key_slots;
+          string_slots = c.insert_child.auto.strings ∙ S.string_slots;
           text_starts = S.text_starts;
           text_places = S.text_places;
         };

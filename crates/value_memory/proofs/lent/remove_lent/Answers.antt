@@ -1,8 +1,8 @@
 use Rattle.std.proofs.Common.{◌≡◌, ◌∙◌, arith}
 use Rattle.value_memory.proofs.lent.remove_lent.Goals as goal
 
-pub remove-child-requires : goal.remove-child-requires
-remove-child-requires g c =
+pub remove_child-requires : goal.remove_child-requires
+remove_child-requires g c =
     let S = c.requires.sound in
     record {
       lawful = S.used;
@@ -17,7 +17,7 @@ remove-child-requires g c =
 pub returns : goal.returns
 returns g c =
     let S = c.requires.sound in
-    let E = c.remove-child.ensures in
+    let E = c.remove_child.ensures in
     record {
       edited = record {
         sound = record {
@@ -25,11 +25,11 @@ returns g c =
           dry = E.dry;
           packed = E.packed;
           spelled = E.spelled S.spelled;
-          chains = c.remove-child.auto.chain ∙ S.chains;
+          chains = c.remove_child.auto.chain ∙ S.chains;
           key_slots = S.key_slots;
           string_slots = S.string_slots;
-          text_starts = c.remove-child.auto.unit-starts ∙ S.text_starts;
-          text_places = c.remove-child.auto.units ∙ S.text_places;
+          text_starts = c.remove_child.auto.unit_starts ∙ S.text_starts;
+          text_places = c.remove_child.auto.units ∙ S.text_places;
         };
         changed = E.changed _ _;
       };

@@ -1,8 +1,8 @@
 use Rattle.std.proofs.Common.{◌≡◌, ◌∙◌, arith}
 use Rattle.value_memory.proofs.lent.replace_lent.Goals as goal
 
-pub replace-content-requires : goal.replace-content-requires
-replace-content-requires g c =
+pub replace_content-requires : goal.replace_content-requires
+replace_content-requires g c =
     let S = c.requires.sound in
     record {
       lawful = S.used;
@@ -19,18 +19,18 @@ replace-content-requires g c =
 pub returns : goal.returns
 returns g c =
     let S = c.requires.sound in
-    let E = c.replace-content.ensures in
+    let E = c.replace_content.ensures in
     record {
       sound = record {
         used = E.lawful;
         dry = E.dry;
         packed = E.packed;
         spelled = E.spelled S.spelled;
-        chains = c.replace-content.auto.chain ∙ S.chains;
+        chains = c.replace_content.auto.chain ∙ S.chains;
         key_slots = S.key_slots;
-        string_slots = c.replace-content.auto.strings ∙ S.string_slots;
-        text_starts = c.replace-content.auto.unit-starts ∙ S.text_starts;
-        text_places = c.replace-content.auto.units ∙ S.text_places;
+        string_slots = c.replace_content.auto.strings ∙ S.string_slots;
+        text_starts = c.replace_content.auto.unit_starts ∙ S.text_starts;
+        text_places = c.replace_content.auto.units ∙ S.text_places;
       };
       changed = E.changed _;
     }

@@ -1,8 +1,8 @@
 use Rattle.std.proofs.Common.{◌≡◌, ◌∙◌, arith}
 use Rattle.value_memory.proofs.lent.splice_lent.Goals as goal
 
-pub splice-units-requires : goal.splice-units-requires
-splice-units-requires g c =
+pub splice_units-requires : goal.splice_units-requires
+splice_units-requires g c =
     let S = c.requires.sound in
     record {
       packed = S.packed;
@@ -15,7 +15,7 @@ splice-units-requires g c =
 pub returns : goal.returns
 returns g c =
     let S = c.requires.sound in
-    let E = c.splice-units.ensures in
+    let E = c.splice_units.ensures in
     record {
       sound = record {
         used = S.used;
@@ -25,8 +25,8 @@ returns g c =
         chains = S.chains;
         key_slots = S.key_slots;
         string_slots = S.string_slots;
-        text_starts = c.splice-units.auto.unit-starts ∙ S.text_starts;
-        text_places = c.splice-units.auto.units ∙ S.text_places;
+        text_starts = c.splice_units.auto.unit_starts ∙ S.text_starts;
+        text_places = c.splice_units.auto.units ∙ S.text_places;
       };
       changed = E.changed 4097 _ _ _ _ _ _ S.used;
     }

@@ -14,29 +14,29 @@ use Rattle.patch.proofs.Fine.{fine_change, length_fine}
 use Rattle.patch.proofs.Changes.{row_laid, row_told, row_flags, tail_told, length_counts, length_told, length_some, length_none}
 use Rattle.patch.proofs.memory.PatchMemory.join_delete.Goals as goal
 
-pub set-tail-requires : goal.set-tail-requires
-set-tail-requires g c =
+pub set_tail-requires : goal.set_tail-requires
+set_tail-requires g c =
     let m = c.args.self.now in
     let l = ap length c.in-Some.ensures.row in
     let k = length-reverse (items m.rows) in
     let n = length-take-le m.rows.len m.rows.places.now m.placed.0 in
     (m.placed.0, omega (arith, l, k, n))
 
-pub invariant-of-self : goal.invariant-of-self
-invariant-of-self g c =
+pub invariant_of-self : goal.invariant_of-self
+invariant_of-self g c =
     let m = c.args.self.now in
     let r = c.in-Some.row in
     let e = c.in-Some.ensures.row in
     let b = block r (parts_of m) in
-    let f = length_some c.args.m b.values b.units (drop (steps_len b.steps) b.bytes) r.action c.in-Some-lengthen-row.action (sym c.in-Some-lengthen-row.is ∙ c.lengthen-row.ensures) in
-    let eR : newest c.set-tail.new.rows ≡ with_action r (lengthen_row c.args.m r.action) ∷ drop 1 (newest m.rows) = c.set-tail.ensures.items ∙ ap (λ a. with_action r a ∷ drop 1 (newest m.rows)) f.0 in
+    let f = length_some c.args.m b.values b.units (drop (steps_len b.steps) b.bytes) r.action c.in-Some-lengthen_row.action (sym c.in-Some-lengthen_row.is ∙ c.lengthen_row.ensures) in
+    let eR : newest c.set_tail.new.rows ≡ with_action r (lengthen_row c.args.m r.action) ∷ drop 1 (newest m.rows) = c.set_tail.ensures.items ∙ ap (λ a. with_action r a ∷ drop 1 (newest m.rows)) f.0 in
     let l = ap length e in
-    let p = ap length c.set-tail.ensures.items in
+    let p = ap length c.set_tail.ensures.items in
     let k = length-reverse (items m.rows) in
-    let q = length-reverse (items c.set-tail.new.rows) in (
-      (c.set-tail.ensures.fits, m.placed.1, m.placed.2, m.placed.3, m.placed.4),
+    let q = length-reverse (items c.set_tail.new.rows) in (
+      (c.set_tail.ensures.fits, m.placed.1, m.placed.2, m.placed.3, m.placed.4),
       (
-        (omega (arith, m.roomy.0, c.set-tail.ensures.room), m.roomy.1, m.roomy.2, m.roomy.3, m.roomy.4),
+        (omega (arith, m.roomy.0, c.set_tail.ensures.room), m.roomy.1, m.roomy.2, m.roomy.3, m.roomy.4),
         (
           (omega (arith, m.few.0, l, p, k, q), m.few.1, m.few.2, m.few.3),
           (ap (λ rs. laid rs (parts_of m)) eR ∙ row_laid (newest m.rows) (parts_of m) m.shared r e (lengthen_row c.args.m r.action) (lengthen c.args.m) (length_counts c.args.m r.action).0 (length_counts c.args.m r.action).1 (length_counts c.args.m r.action).2 (length_counts c.args.m r.action).3 (length_told c.args.m r.action), (ap (λ rs. all_fine (told rs (parts_of m))) eR ∙ (ap all_fine (row_told (newest m.rows) (parts_of m) m.shared r e (lengthen_row c.args.m r.action) (lengthen c.args.m) (length_counts c.args.m r.action).0 (length_counts c.args.m r.action).1 (length_counts c.args.m r.action).2 (length_counts c.args.m r.action).3 (length_told c.args.m r.action)) ∙ (fine_change (lengthen c.args.m) (length_fine c.args.m) (held_of m) ∙ m.fine)), tt)),
@@ -50,8 +50,8 @@ returns g c =
     let r = c.in-Some.row in
     let e = c.in-Some.ensures.row in
     let b = block r (parts_of m) in
-    let f = length_some c.args.m b.values b.units (drop (steps_len b.steps) b.bytes) r.action c.in-Some-lengthen-row.action (sym c.in-Some-lengthen-row.is ∙ c.lengthen-row.ensures) in
-    let eR : newest c.set-tail.new.rows ≡ with_action r (lengthen_row c.args.m r.action) ∷ drop 1 (newest m.rows) = c.set-tail.ensures.items ∙ ap (λ a. with_action r a ∷ drop 1 (newest m.rows)) f.0 in
+    let f = length_some c.args.m b.values b.units (drop (steps_len b.steps) b.bytes) r.action c.in-Some-lengthen_row.action (sym c.in-Some-lengthen_row.is ∙ c.lengthen_row.ensures) in
+    let eR : newest c.set_tail.new.rows ≡ with_action r (lengthen_row c.args.m r.action) ∷ drop 1 (newest m.rows) = c.set_tail.ensures.items ∙ ap (λ a. with_action r a ∷ drop 1 (newest m.rows)) f.0 in
     let h = tail_told (newest m.rows) (parts_of m) m.shared r e in
     record {
       answer = sym (ap (λ t. provided t DeletionLength tt) (ap (of_tail (length_fits c.args.m)) h ∙ f.1));

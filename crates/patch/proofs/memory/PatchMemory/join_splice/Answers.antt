@@ -15,19 +15,19 @@ use Rattle.patch.proofs.Tell.{overfull_told}
 use Rattle.patch.proofs.Joins.{none_passes, units_other, units_laid, units_told, units_flags, units_over, units_stored, length_splice}
 use Rattle.patch.proofs.memory.PatchMemory.join_splice.Goals as goal
 
-pub returns-in-default : goal.returns-in-default
-returns-in-default g c =
-    let e = c.in-default.ensures.held in
+pub returns-in_default : goal.returns-in_default
+returns-in_default g c =
+    let e = c.in_default.ensures.held in
     record {
       answer = sym (ap (λ h. provided (not (overfull (change_tail (add_units c.args.j c.args.units.now) h))) Full tt) e);
       held = e ∙ sym (ap (change_tail (add_units c.args.j c.args.units.now)) e);
       wide = refl;
     }
 
-pub returns-in-default-action : goal.returns-in-default-action
-returns-in-default-action g c =
+pub returns-in_default-action : goal.returns-in_default-action
+returns-in_default-action g c =
     let m = c.args.self.now in
-    let E = units_other (newest m.rows) (parts_of m) m.shared c.in-Some.row c.in-Some.ensures.row c.in-default-action.not-SpliceText c.args.j c.args.units.now in
+    let E = units_other (newest m.rows) (parts_of m) m.shared c.in-Some.row c.in-Some.ensures.row c.in_default-action.not-SpliceText c.args.j c.args.units.now in
     let lr : length (newest m.rows) ≡ length (items m.rows) = length-reverse (items m.rows) in
     let o = overfull_told (newest m.rows) (parts_of m) m.shared ∙ none_passes (length (newest m.rows)) (length (items m.values)) (length (items m.units)) (length (items m.bytes)) (omega (arith, lr, m.few.0)) m.few.1 m.few.2 m.few.3 in
     record {
@@ -57,8 +57,8 @@ returns-then-exceeds g c =
       wide = refl;
     }
 
-pub invariant-of-self : goal.invariant-of-self
-invariant-of-self g c =
+pub invariant_of-self : goal.invariant_of-self
+invariant_of-self g c =
     let m = c.args.self.now in
     let r = c.in-Some.row in
     let e = c.in-Some.ensures.row in
@@ -76,15 +76,15 @@ invariant-of-self g c =
     let h : p ≡ length (items m.units) - n + min c.args.j n = omega (arith, lu, c.min.ensures) in
     let eP = units_stored R (parts_of m) m.shared r e i n c.args.j us a (items c.splice.new.self) p h c.splice.ensures.items in
     let l = ap length e in
-    let q = ap length c.set-tail.ensures.items in
-    let k = length-reverse (items c.set-tail.new.rows) in
+    let q = ap length c.set_tail.ensures.items in
+    let k = length-reverse (items c.set_tail.new.rows) in
     let nu : length (items c.splice.new.self) ≡ length (items m.units) + length us = ap length c.splice.ensures.items ∙ length_splice (items m.units) us p in (
-      (c.set-tail.ensures.fits, m.placed.1, m.placed.2, c.splice.ensures.fits, m.placed.4),
+      (c.set_tail.ensures.fits, m.placed.1, m.placed.2, c.splice.ensures.fits, m.placed.4),
       (
-        (omega (arith, m.roomy.0, c.set-tail.ensures.room), m.roomy.1, m.roomy.2, omega (arith, m.roomy.3, c.splice.ensures.room), m.roomy.4),
+        (omega (arith, m.roomy.0, c.set_tail.ensures.room), m.roomy.1, m.roomy.2, omega (arith, m.roomy.3, c.splice.ensures.room), m.roomy.4),
         (
           (omega (arith, m.few.0, l, q, k, lr), m.few.1, omega (arith, nu, w), m.few.3),
-          ((λ k. laid (c.set-tail.ensures.items k) (eP k)) ∙ units_laid R (parts_of m) m.shared r e i n c.args.j us a, ((λ k. all_fine (told (c.set-tail.ensures.items k) (eP k))) ∙ (ap all_fine (units_told R (parts_of m) m.shared r e i n c.args.j us a) ∙ (fine_change (add_units c.args.j us) (units_fine c.args.j us) (held_of m) ∙ m.fine)), tt)),
+          ((λ k. laid (c.set_tail.ensures.items k) (eP k)) ∙ units_laid R (parts_of m) m.shared r e i n c.args.j us a, ((λ k. all_fine (told (c.set_tail.ensures.items k) (eP k))) ∙ (ap all_fine (units_told R (parts_of m) m.shared r e i n c.args.j us a) ∙ (fine_change (add_units c.args.j us) (units_fine c.args.j us) (held_of m) ∙ m.fine)), tt)),
         ),
       ),
     )
@@ -109,6 +109,6 @@ returns g c =
     let eP = units_stored R (parts_of m) m.shared r e i n c.args.j us a (items c.splice.new.self) p h c.splice.ensures.items in
     record {
       answer = sym (ap (λ t. provided (not t) Full tt) (o ∙ f));
-      held = (λ k. told (c.set-tail.ensures.items k) (eP k)) ∙ units_told R (parts_of m) m.shared r e i n c.args.j us a;
-      wide = (λ k. flags_told (c.set-tail.ensures.items k) (eP k)) ∙ units_flags R (parts_of m) m.shared r e i n c.args.j us a;
+      held = (λ k. told (c.set_tail.ensures.items k) (eP k)) ∙ units_told R (parts_of m) m.shared r e i n c.args.j us a;
+      wide = (λ k. flags_told (c.set_tail.ensures.items k) (eP k)) ∙ units_flags R (parts_of m) m.shared r e i n c.args.j us a;
     }

@@ -12,27 +12,27 @@ use Rattle.patch.proofs.Fine.{fine_change, flag_fine}
 use Rattle.patch.proofs.Changes.{row_laid, row_told, row_flags, tail_told, flag_counts, flag_told}
 use Rattle.patch.proofs.memory.PatchMemory.set_flag.Goals as goal
 
-pub set-tail-requires : goal.set-tail-requires
-set-tail-requires g c =
+pub set_tail-requires : goal.set_tail-requires
+set_tail-requires g c =
     let m = c.args.self.now in
     let l = ap length c.in-Some.ensures.row in
     let k = length-reverse (items m.rows) in
     let n = length-take-le m.rows.len m.rows.places.now m.placed.0 in
     (m.placed.0, omega (arith, l, k, n))
 
-pub invariant-of-self : goal.invariant-of-self
-invariant-of-self g c =
+pub invariant_of-self : goal.invariant_of-self
+invariant_of-self g c =
     let m = c.args.self.now in
     let r = c.in-Some.row in
     let e = c.in-Some.ensures.row in
-    let eR : newest c.set-tail.new.rows ≡ with_action r (flag_row r.action) ∷ drop 1 (newest m.rows) = c.set-tail.ensures.items ∙ ap (λ a. with_action r a ∷ drop 1 (newest m.rows)) c.flag-row-action.ensures in
+    let eR : newest c.set_tail.new.rows ≡ with_action r (flag_row r.action) ∷ drop 1 (newest m.rows) = c.set_tail.ensures.items ∙ ap (λ a. with_action r a ∷ drop 1 (newest m.rows)) c.flag_row-action.ensures in
     let l = ap length e in
-    let p = ap length c.set-tail.ensures.items in
+    let p = ap length c.set_tail.ensures.items in
     let k = length-reverse (items m.rows) in
-    let q = length-reverse (items c.set-tail.new.rows) in (
-      (c.set-tail.ensures.fits, m.placed.1, m.placed.2, m.placed.3, m.placed.4),
+    let q = length-reverse (items c.set_tail.new.rows) in (
+      (c.set_tail.ensures.fits, m.placed.1, m.placed.2, m.placed.3, m.placed.4),
       (
-        (omega (arith, m.roomy.0, c.set-tail.ensures.room), m.roomy.1, m.roomy.2, m.roomy.3, m.roomy.4),
+        (omega (arith, m.roomy.0, c.set_tail.ensures.room), m.roomy.1, m.roomy.2, m.roomy.3, m.roomy.4),
         (
           (omega (arith, m.few.0, l, p, k, q), m.few.1, m.few.2, m.few.3),
           (ap (λ rs. laid rs (parts_of m)) eR ∙ row_laid (newest m.rows) (parts_of m) m.shared r e (flag_row r.action) flag_put (flag_counts r.action).0 (flag_counts r.action).1 (flag_counts r.action).2 (flag_counts r.action).3 (flag_told r.action), (ap (λ rs. all_fine (told rs (parts_of m))) eR ∙ (ap all_fine (row_told (newest m.rows) (parts_of m) m.shared r e (flag_row r.action) flag_put (flag_counts r.action).0 (flag_counts r.action).1 (flag_counts r.action).2 (flag_counts r.action).3 (flag_told r.action)) ∙ (fine_change flag_put flag_fine (held_of m) ∙ m.fine)), tt)),
@@ -45,7 +45,7 @@ returns g c =
     let m = c.args.self.now in
     let r = c.in-Some.row in
     let e = c.in-Some.ensures.row in
-    let eR : newest c.set-tail.new.rows ≡ with_action r (flag_row r.action) ∷ drop 1 (newest m.rows) = c.set-tail.ensures.items ∙ ap (λ a. with_action r a ∷ drop 1 (newest m.rows)) c.flag-row-action.ensures in
+    let eR : newest c.set_tail.new.rows ≡ with_action r (flag_row r.action) ∷ drop 1 (newest m.rows) = c.set_tail.ensures.items ∙ ap (λ a. with_action r a ∷ drop 1 (newest m.rows)) c.flag_row-action.ensures in
     record {
       held = ap (λ rs. told rs (parts_of m)) eR ∙ row_told (newest m.rows) (parts_of m) m.shared r e (flag_row r.action) flag_put (flag_counts r.action).0 (flag_counts r.action).1 (flag_counts r.action).2 (flag_counts r.action).3 (flag_told r.action);
       wide = ap (λ rs. flags_told rs (parts_of m)) eR ∙ row_flags (newest m.rows) (parts_of m) m.shared r e (flag_row r.action) flag_put (flag_counts r.action).0 (flag_counts r.action).1 (flag_counts r.action).2 (flag_counts r.action).3 (flag_told r.action);

@@ -29,5 +29,5 @@ module _ {U : Type 0} (m : PatchMemory U) (l : m.rows.len ≡ length (items m.ro
 pub returns : goal.returns
 returns g c =
     let m = c.args.self.now in
-    let b = either m (sym (length-take-le m.rows.len m.rows.places.now m.placed.0)) (eqb m.rows.len 0) refl c.last-row.result c.last-row.ensures in
+    let b = either m (sym (length-take-le m.rows.len m.rows.places.now m.placed.0)) (eqb m.rows.len 0) refl c.last_row.result c.last_row.ensures in
     record { row = b.0; held = b.1 }

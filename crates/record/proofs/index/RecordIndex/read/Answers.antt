@@ -3,25 +3,25 @@ use Rattle.record.proofs.Indexing.{typed_bytes}
 use Rattle.record.proofs.Finding.{opened, count_is, starts_are, firsts_are, places_are}
 use Rattle.record.proofs.index.RecordIndex.read.Goals as goal
 
-pub invariant-of-self : goal.invariant-of-self
-invariant-of-self c =
+pub invariant_of-self : goal.invariant_of-self
+invariant_of-self c =
     let bs = c.args.bytes.now in
     let B = typed_bytes bs c.type-inv.bytes in
     let e = sym c.in-Some.ensures in
-    let ran = c.in-Some-scan-objects.ensures in
+    let ran = c.in-Some-scan_objects.ensures in
     let n = c.in-Some.count in
     let r = c.in-Some.rest.now in
-    let end = c.in-Some-scan-objects.end.now in
-    let s = c.scan-objects.new.starts in
-    let f = c.scan-objects.new.firsts in
-    let a = c.scan-objects.new.places in
-    let h = c.if-n-gt-RECORD-BYTES.false in
+    let end = c.in-Some-scan_objects.end.now in
+    let s = c.scan_objects.new.starts in
+    let f = c.scan_objects.new.firsts in
+    let a = c.scan_objects.new.places in
+    let h = c.if-n-gt-RECORD_BYTES.false in
     let z = c.if-end-ne0.false in (
-      omega (arith, c.scan-objects.auto.starts),
+      omega (arith, c.scan_objects.auto.starts),
       (
-        omega (arith, c.scan-objects.auto.firsts),
+        omega (arith, c.scan_objects.auto.firsts),
         (
-          omega (arith, c.scan-objects.auto.places),
+          omega (arith, c.scan_objects.auto.places),
           (
             (λ j. (c.type-inv.bytes j).fits),
             (

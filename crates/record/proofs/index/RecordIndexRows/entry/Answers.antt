@@ -4,63 +4,63 @@ use Rattle.record.proofs.Finding.{text_entries, no_entry_lem, size_is}
 use Rattle.record.proofs.Held.{bytes_are, there, unread, told}
 use Rattle.record.proofs.index.RecordIndexRows.entry.Goals as goal
 
-pub returns-then-is-text : goal.returns-then-is-text
-returns-then-is-text c =
+pub returns-then-is_text : goal.returns-then-is_text
+returns-then-is_text c =
     let s = c.args.self.now in
-    sym (text_entries s.bytes.now c.args.i (bytes_are s) s.said c.in-ok-head.head c.in-ok-head.rest.now c.in-ok-head.ensures
-    c.args.n (sym c.is-text.ensures ∙ c.if-is-text.true))
+    sym (text_entries s.bytes.now c.args.i (bytes_are s) s.said c.in_ok-head.head c.in_ok-head.rest.now c.in_ok-head.ensures
+    c.args.n (sym c.is_text.ensures ∙ c.if-is_text.true))
 
 pub returns-then-n-count : goal.returns-then-n-count
 returns-then-n-count c =
     let s = c.args.self.now in
-    let h = c.in-ok-head.head in let r = c.in-ok-head.rest.now in let f = c.in-ok-head.ensures in
-    let z = size_is s.bytes.now c.args.i (bytes_are s) s.said h r f c.in-ok-count.count c.in-ok-count.field-0-1.now c.in-ok-count.ensures in
-    sym (no_entry_lem s.bytes.now c.args.i (bytes_are s) s.said h r f (sym c.is-text.ensures ∙ c.if-is-text.false) c.args.n (omega (arith, z, c.if-n-count.true)))
+    let h = c.in_ok-head.head in let r = c.in_ok-head.rest.now in let f = c.in_ok-head.ensures in
+    let z = size_is s.bytes.now c.args.i (bytes_are s) s.said h r f c.in_ok-count.count c.in_ok-count.field-0-1.now c.in_ok-count.ensures in
+    sym (no_entry_lem s.bytes.now c.args.i (bytes_are s) s.said h r f (sym c.is_text.ensures ∙ c.if-is_text.false) c.args.n (omega (arith, z, c.if-n-count.true)))
 
-pub offset-bounds-self-i : goal.offset-bounds-self-i
-offset-bounds-self-i c = omega (
+pub offset_bounds-self-i : goal.offset_bounds-self-i
+offset_bounds-self-i c = omega (
   arith,
-  (there c.args.self.now c.args.i c.args.n c.in-ok-head.head c.in-ok-head.rest.now c.in-ok-head.ensures (sym c.is-text.ensures ∙ c.if-is-text.false)
-      c.in-ok-count.count c.in-ok-count.field-0-1.now c.in-ok-count.ensures c.if-n-count.false).firsts_room,
+  (there c.args.self.now c.args.i c.args.n c.in_ok-head.head c.in_ok-head.rest.now c.in_ok-head.ensures (sym c.is_text.ensures ∙ c.if-is_text.false)
+      c.in_ok-count.count c.in_ok-count.field-0-1.now c.in_ok-count.ensures c.if-n-count.false).firsts_room,
   c.args.self.now.firstsize,
 )
 
 pub bounds-self-i : goal.bounds-self-i
 bounds-self-i c = omega (
   arith,
-  (there c.args.self.now c.args.i c.args.n c.in-ok-head.head c.in-ok-head.rest.now c.in-ok-head.ensures (sym c.is-text.ensures ∙ c.if-is-text.false)
-      c.in-ok-count.count c.in-ok-count.field-0-1.now c.in-ok-count.ensures c.if-n-count.false).firsts_room,
+  (there c.args.self.now c.args.i c.args.n c.in_ok-head.head c.in_ok-head.rest.now c.in_ok-head.ensures (sym c.is_text.ensures ∙ c.if-is_text.false)
+      c.in_ok-count.count c.in_ok-count.field-0-1.now c.in_ok-count.ensures c.if-n-count.false).firsts_room,
   c.args.self.now.firstsize,
 )
 
 pub bounds-self-self : goal.bounds-self-self
 bounds-self-self c = omega (
   arith,
-  (there c.args.self.now c.args.i c.args.n c.in-ok-head.head c.in-ok-head.rest.now c.in-ok-head.ensures (sym c.is-text.ensures ∙ c.if-is-text.false)
-      c.in-ok-count.count c.in-ok-count.field-0-1.now c.in-ok-count.ensures c.if-n-count.false).places_room,
+  (there c.args.self.now c.args.i c.args.n c.in_ok-head.head c.in_ok-head.rest.now c.in_ok-head.ensures (sym c.is_text.ensures ∙ c.if-is_text.false)
+      c.in_ok-count.count c.in_ok-count.field-0-1.now c.in_ok-count.ensures c.if-n-count.false).places_room,
   c.args.self.now.placesize,
 )
 
-pub slice-bounds-take-entry-count : goal.slice-bounds-take-entry-count
-slice-bounds-take-entry-count c = (there c.args.self.now c.args.i c.args.n c.in-ok-head.head c.in-ok-head.rest.now c.in-ok-head.ensures (sym c.is-text.ensures ∙ c.if-is-text.false)
-    c.in-ok-count.count c.in-ok-count.field-0-1.now c.in-ok-count.ensures c.if-n-count.false).fits
+pub slice_bounds-take_entry-count : goal.slice_bounds-take_entry-count
+slice_bounds-take_entry-count c = (there c.args.self.now c.args.i c.args.n c.in_ok-head.head c.in_ok-head.rest.now c.in_ok-head.ensures (sym c.is_text.ensures ∙ c.if-is_text.false)
+    c.in_ok-count.count c.in_ok-count.field-0-1.now c.in_ok-count.ensures c.if-n-count.false).fits
 
-pub slice-bounds-take-entry-start : goal.slice-bounds-take-entry-start
-slice-bounds-take-entry-start c =
-    let f = (there c.args.self.now c.args.i c.args.n c.in-ok-head.head c.in-ok-head.rest.now c.in-ok-head.ensures (sym c.is-text.ensures ∙ c.if-is-text.false)
-    c.in-ok-count.count c.in-ok-count.field-0-1.now c.in-ok-count.ensures c.if-n-count.false).fits in
+pub slice_bounds-take_entry-start : goal.slice_bounds-take_entry-start
+slice_bounds-take_entry-start c =
+    let f = (there c.args.self.now c.args.i c.args.n c.in_ok-head.head c.in_ok-head.rest.now c.in_ok-head.ensures (sym c.is_text.ensures ∙ c.if-is_text.false)
+    c.in_ok-count.count c.in_ok-count.field-0-1.now c.in_ok-count.ensures c.if-n-count.false).fits in
     search rules
 
-pub returns-in-err-entry : goal.returns-in-err-entry
-returns-in-err-entry c =
+pub returns-in_err-entry : goal.returns-in_err-entry
+returns-in_err-entry c =
     let s = c.args.self.now in
-    absurd (unread s c.args.i c.args.n c.in-ok-head.head c.in-ok-head.rest.now c.in-ok-head.ensures (sym c.is-text.ensures ∙ c.if-is-text.false)
-    c.in-ok-count.count c.in-ok-count.field-0-1.now c.in-ok-count.ensures c.if-n-count.false
-    c.has-keys.result _ c.has-keys.ensures (take_rest s.bytes.now (get_or s.places (get_or s.firsts c.args.i 0 + c.args.n) 0)) c.in-err-entry.ensures)
+    absurd (unread s c.args.i c.args.n c.in_ok-head.head c.in_ok-head.rest.now c.in_ok-head.ensures (sym c.is_text.ensures ∙ c.if-is_text.false)
+    c.in_ok-count.count c.in_ok-count.field-0-1.now c.in_ok-count.ensures c.if-n-count.false
+    c.has_keys.result _ c.has_keys.ensures (take_rest s.bytes.now (get_or s.places (get_or s.firsts c.args.i 0 + c.args.n) 0)) c.in_err-entry.ensures)
 
 pub returns : goal.returns
 returns c =
     let s = c.args.self.now in
-    told s c.args.i c.args.n c.in-ok-head.head c.in-ok-head.rest.now c.in-ok-head.ensures (sym c.is-text.ensures ∙ c.if-is-text.false)
-    c.in-ok-count.count c.in-ok-count.field-0-1.now c.in-ok-count.ensures c.if-n-count.false
-    c.has-keys.result _ c.in-ok-entry.entry c.in-ok-entry.field-0-1.now c.has-keys.ensures (take_rest s.bytes.now (get_or s.places (get_or s.firsts c.args.i 0 + c.args.n) 0)) c.in-ok-entry.ensures
+    told s c.args.i c.args.n c.in_ok-head.head c.in_ok-head.rest.now c.in_ok-head.ensures (sym c.is_text.ensures ∙ c.if-is_text.false)
+    c.in_ok-count.count c.in_ok-count.field-0-1.now c.in_ok-count.ensures c.if-n-count.false
+    c.has_keys.result _ c.in_ok-entry.entry c.in_ok-entry.field-0-1.now c.has_keys.ensures (take_rest s.bytes.now (get_or s.places (get_or s.firsts c.args.i 0 + c.args.n) 0)) c.in_ok-entry.ensures

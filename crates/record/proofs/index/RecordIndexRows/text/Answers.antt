@@ -6,24 +6,24 @@ use Rattle.record.proofs.Finding.{no_text, text_there}
 use Rattle.record.proofs.Held.{bytes_are}
 use Rattle.record.proofs.index.RecordIndexRows.text.Goals as goal
 
-pub returns-then-not-is-text : goal.returns-then-not-is-text
-returns-then-not-is-text c =
+pub returns-then-not-is_text : goal.returns-then-not-is_text
+returns-then-not-is_text c =
     let s = c.args.self.now in
-    sym (no_text s.bytes.now c.args.i (bytes_are s) s.said c.in-ok-head.head c.in-ok-head.rest.now c.in-ok-head.ensures
-    (sym c.is-text.ensures ∙ c.if-not-is-text.true))
+    sym (no_text s.bytes.now c.args.i (bytes_are s) s.said c.in_ok-head.head c.in_ok-head.rest.now c.in_ok-head.ensures
+    (sym c.is_text.ensures ∙ c.if-not-is_text.true))
 
-pub returns-in-err-text : goal.returns-in-err-text
-returns-in-err-text c =
+pub returns-in_err-text : goal.returns-in_err-text
+returns-in_err-text c =
     let s = c.args.self.now in
-    let t = text_there s.bytes.now c.args.i (bytes_are s) s.said c.in-ok-head.head c.in-ok-head.rest.now c.in-ok-head.ensures
-    (sym c.is-text.ensures ∙ c.if-not-is-text.false) in
-    let q : ◌≡◌ {A = Got (List ℕ)} None (Some (t.bytes, c.in-ok-head.ensures.more)) = c.in-err-text.ensures ∙ t.got in
+    let t = text_there s.bytes.now c.args.i (bytes_are s) s.said c.in_ok-head.head c.in_ok-head.rest.now c.in_ok-head.ensures
+    (sym c.is_text.ensures ∙ c.if-not-is_text.false) in
+    let q : ◌≡◌ {A = Got (List ℕ)} None (Some (t.bytes, c.in_ok-head.ensures.more)) = c.in_err-text.ensures ∙ t.got in
     let z : ◌≡◌ {A = ℕ} 0 1 = cc in absurd (omega arith)
 
 pub returns : goal.returns
 returns c =
     let s = c.args.self.now in
-    let t = text_there s.bytes.now c.args.i (bytes_are s) s.said c.in-ok-head.head c.in-ok-head.rest.now c.in-ok-head.ensures
-    (sym c.is-text.ensures ∙ c.if-not-is-text.false) in
-    ap {B = Option (List ℕ)} (λ x. some x) (val_is c.in-ok-text.text.now t.bytes c.in-ok-text.field-0-1.now c.in-ok-head.ensures.more (c.in-ok-text.ensures ∙ t.got))
+    let t = text_there s.bytes.now c.args.i (bytes_are s) s.said c.in_ok-head.head c.in_ok-head.rest.now c.in_ok-head.ensures
+    (sym c.is_text.ensures ∙ c.if-not-is_text.false) in
+    ap {B = Option (List ℕ)} (λ x. some x) (val_is c.in_ok-text.text.now t.bytes c.in_ok-text.field-0-1.now c.in_ok-head.ensures.more (c.in_ok-text.ensures ∙ t.got))
     ∙ sym t.told

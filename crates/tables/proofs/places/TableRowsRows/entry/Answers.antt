@@ -15,26 +15,26 @@ returns-then-n-o c =
     let bs = c.args.self.now.bytes.now in
     let o = get_or os c.args.i no_row in
     let ok = object_lies_lem os es bs c.args.self.now.within c.args.i c.if-i-self.false in
-    sym (ap (λ x. entry_told x c.args.n) (docs_at os es bs c.args.i c.if-i-self.false) ∙ entry_past es bs o ok c.in-default.not-Text c.args.n c.if-n-o.true)
+    sym (ap (λ x. entry_told x c.args.n) (docs_at os es bs c.args.i c.if-i-self.false) ∙ entry_past es bs o ok c.in_default.not-Text c.args.n c.if-n-o.true)
 
-pub overflow-add-o : goal.overflow-add-o
-overflow-add-o c =
+pub overflow_add-o : goal.overflow_add-o
+overflow_add-o c =
     let os = c.args.self.now.objects.now in
     let es = c.args.self.now.entries.now in
     let bs = c.args.self.now.bytes.now in
     let o = get_or os c.args.i no_row in
     let ok = object_lies_lem os es bs c.args.self.now.within c.args.i c.if-i-self.false in
-    let f = row_fits es bs o ok c.in-default.not-Text in
+    let f = row_fits es bs o ok c.in_default.not-Text in
     omega (arith, f)
 
-pub offset-bounds-self-o : goal.offset-bounds-self-o
-offset-bounds-self-o c =
+pub offset_bounds-self-o : goal.offset_bounds-self-o
+offset_bounds-self-o c =
     let os = c.args.self.now.objects.now in
     let es = c.args.self.now.entries.now in
     let bs = c.args.self.now.bytes.now in
     let o = get_or os c.args.i no_row in
     let ok = object_lies_lem os es bs c.args.self.now.within c.args.i c.if-i-self.false in
-    let f = row_fits es bs o ok c.in-default.not-Text in
+    let f = row_fits es bs o ok c.in_default.not-Text in
     omega (arith, f)
 
 pub bounds-self-o : goal.bounds-self-o
@@ -44,17 +44,17 @@ bounds-self-o c =
     let bs = c.args.self.now.bytes.now in
     let o = get_or os c.args.i no_row in
     let ok = object_lies_lem os es bs c.args.self.now.within c.args.i c.if-i-self.false in
-    let f = row_fits es bs o ok c.in-default.not-Text in
+    let f = row_fits es bs o ok c.in_default.not-Text in
     omega (arith, f)
 
-pub entry-over-requires : goal.entry-over-requires
-entry-over-requires c =
+pub entry_over-requires : goal.entry_over-requires
+entry_over-requires c =
     let os = c.args.self.now.objects.now in
     let es = c.args.self.now.entries.now in
     let bs = c.args.self.now.bytes.now in
     let o = get_or os c.args.i no_row in
     let ok = object_lies_lem os es bs c.args.self.now.within c.args.i c.if-i-self.false in
-    let f = row_fits es bs o ok c.in-default.not-Text in
+    let f = row_fits es bs o ok c.in_default.not-Text in
     entry_lies_lem os es bs c.args.self.now.within (o.row.from + c.args.n) (omega (arith, f))
 
 pub returns-in-Text : goal.returns-in-Text
@@ -71,5 +71,5 @@ returns-else-n-o c =
     let bs = c.args.self.now.bytes.now in
     let o = get_or os c.args.i no_row in
     let ok = object_lies_lem os es bs c.args.self.now.within c.args.i c.if-i-self.false in
-    ap {B = Option (Key × Entry)} (λ p. some p) c.entry-over.ensures
-    ∙ sym (ap (λ x. entry_told x c.args.n) (docs_at os es bs c.args.i c.if-i-self.false) ∙ entry_at es bs o ok c.in-default.not-Text c.args.n c.if-n-o.false)
+    ap {B = Option (Key × Entry)} (λ p. some p) c.entry_over.ensures
+    ∙ sym (ap (λ x. entry_told x c.args.n) (docs_at os es bs c.args.i c.if-i-self.false) ∙ entry_at es bs o ok c.in_default.not-Text c.args.n c.if-n-o.false)

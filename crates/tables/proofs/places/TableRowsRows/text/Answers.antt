@@ -23,9 +23,9 @@ returns-in-Text c =
     let bs = c.args.self.now.bytes.now in
     ap {B = Option (List ℕ)} (λ t. some t) c.shown.ensures ∙ sym (ap text_told (docs_at os es bs c.args.i c.if-i-self.false) ∙ text_at es bs (get_or os c.args.i no_row) c.in-Text.is)
 
-pub returns-in-default : goal.returns-in-default
-returns-in-default c =
+pub returns-in_default : goal.returns-in_default
+returns-in_default c =
     let os = c.args.self.now.objects.now in
     let es = c.args.self.now.entries.now in
     let bs = c.args.self.now.bytes.now in
-    sym (ap text_told (docs_at os es bs c.args.i c.if-i-self.false) ∙ other_at es bs (get_or os c.args.i no_row) c.in-default.not-Text)
+    sym (ap text_told (docs_at os es bs c.args.i c.if-i-self.false) ∙ other_at es bs (get_or os c.args.i no_row) c.in_default.not-Text)

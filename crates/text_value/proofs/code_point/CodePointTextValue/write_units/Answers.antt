@@ -11,12 +11,12 @@ use Rattle.text_value.proofs.code_point.CodePointTextValue.write_units.Goals as 
 pub loop-c-init : goal.loop-c-init
 loop-c-init c =
     let u : IsUtf8 c.args.s.now = search rules in
-    let e : c.args.s.now ≡ chars_rest c.into-iter-c-iterator.result = search rules in
+    let e : c.args.s.now ≡ chars_rest c.into_iter-c-iterator.result = search rules in
     let us = code_points c.args.s.now in
     (tt, tt, subst IsUtf8 e u, subst (λ bs. Writing us (code_points bs) c.args.out.now c.args.out.now 0) e (writing_none us c.args.out.now))
 
 -- Before a character is written: its units have room, and it is the next to come.
-module _ (c : goal.After-char-told·1) where
+module _ (c : goal.After-char_told-1) where
   room : length (code_points c.args.s.now) ≤ length c.args.out.now
   room = let f = c.if-not-fits.ensures in let l = c.if-not-fits.false in grind (arith, nat_tests)
 
@@ -29,14 +29,14 @@ module _ (c : goal.After-char-told·1) where
   places : (c.loop-c.n < length (code_points c.args.s.now)) × (c.loop-c.n < length c.loop-c.out)
   places = writing_room (code_points c.args.s.now) c.args.out.now (code_points (chars_rest c.next.new.self)) c.loop-c.out c.loop-c.n c.in-Some.c room writing
 
-pub offset-bounds-out-n : goal.offset-bounds-out-n
-offset-bounds-out-n c = let p = (places c).1 in search rules
+pub offset_bounds-out-n : goal.offset_bounds-out-n
+offset_bounds-out-n c = let p = (places c).1 in search rules
 
 pub bounds-out-n : goal.bounds-out-n
 bounds-out-n c = (places c).1
 
-pub overflow-add-n : goal.overflow-add-n
-overflow-add-n c = let p = (places c).1 in search rules
+pub overflow_add-n : goal.overflow_add-n
+overflow_add-n c = let p = (places c).1 in search rules
 
 pub loop-c-preserved : goal.loop-c-preserved
 loop-c-preserved c =

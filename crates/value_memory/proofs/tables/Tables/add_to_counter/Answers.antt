@@ -12,8 +12,8 @@ pub returns : goal.returns
 returns g c =
     let e : to_z w64 (of_z w64 c.args.by) ≡ c.args.by = to_z-of_z w64 c.args.by c.ranges.by in
     let m = c.args.self.now in
-    let m2 = with_nodes m c.raise-lent.new.nodes in
+    let m2 = with_nodes m c.raise_lent.new.nodes in
     record {
-      answer = c.raise-lent.ensures.answer ∙ ap (λ z. raising z (item_at (nodes_in c.args.self.now) c.args.c).content) e;
-      effect = subst (λ (z : ℤ). MatchResult c.raise-lent.result (λ _. Edited c.args.c (relabel (raised z)) m m2) (λ _. Kept m m2)) e c.raise-lent.ensures.effect;
+      answer = c.raise_lent.ensures.answer ∙ ap (λ z. raising z (item_at (nodes_in c.args.self.now) c.args.c).content) e;
+      effect = subst (λ (z : ℤ). MatchResult c.raise_lent.result (λ _. Edited c.args.c (relabel (raised z)) m m2) (λ _. Kept m m2)) e c.raise_lent.ensures.effect;
     }

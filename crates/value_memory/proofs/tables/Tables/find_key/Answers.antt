@@ -4,8 +4,8 @@ use Rattle.value_memory.specs.Memory.{nodes_in, kids}
 use Rattle.value_memory.proofs.Touching.{on_found}
 use Rattle.value_memory.proofs.tables.Tables.find_key.Goals as goal
 
-pub find-key-requires : goal.find-key-requires
-find-key-requires g c = record {
+pub find_key-requires : goal.find_key-requires
+find_key-requires g c = record {
   lawful = c.requires.sound.used.placing;
   inside = c.requires.low;
   slots = omega (arith, c.requires.sound.key_slots);
@@ -19,4 +19,4 @@ returns g c =
     on_found
     (Found (key_of (nodes_in m) m.keys.at.now) (kids m c.args.o) c.args.key.now)
     (Missing (key_of (nodes_in m) m.keys.at.now) (kids m c.args.o) c.args.key.now)
-    c.find-key.result c.find-key.ensures
+    c.find_key.result c.find_key.ensures

@@ -1,8 +1,8 @@
 use Rattle.std.proofs.Common.{arith}
 use Rattle.value_memory.proofs.tables.Tables.kid_count.Goals as goal
 
-pub row-len-requires : goal.row-len-requires
-row-len-requires g c = record {
+pub row_len-requires : goal.row_len-requires
+row_len-requires g c = record {
   packed = c.requires.sound.used.placing.packed;
   inside = omega (arith, c.requires.sound.used.placing.rows, c.requires.low);
 }

@@ -1,8 +1,8 @@
 use Rattle.std.proofs.Common.{arith}
 use Rattle.value_memory.proofs.tables.Tables.string.Goals as goal
 
-pub string-of-requires : goal.string-of-requires
-string-of-requires g c = record {
+pub string_of-requires : goal.string_of-requires
+string_of-requires g c = record {
   inside = omega (arith, c.requires.sound.used.placing.count, c.requires.low);
   slots = omega (arith, c.requires.sound.used.placing.count, c.requires.sound.string_slots);
   short = (c.requires.sound.used.short c.args.c).1;
