@@ -10,7 +10,7 @@ use crate::rows::Rows;
 use types::bounds::DOCUMENT_OBJECTS;
 
 fn keeps_laws<R: Rows>(rows: &R) -> bool
-    ensures { result ≡ lawful (shaped rows.now).doc }
+    ensures { result ≡ lawful (R.shaped rows.now).doc }
 {
     if rows.count() > DOCUMENT_OBJECTS {
         return false;
@@ -27,8 +27,8 @@ fn keeps_laws<R: Rows>(rows: &R) -> bool
 
 // Whether rows keep all laws of documents. The test is the laws.
 pub fn check_rows<R: Rows>(rows: &R) -> bool
-    ensures test { result ≡ lawful (shaped rows.now).doc }
-    ensures laws { Decides result (Lawful (shaped rows.now).doc × (topped (shaped rows.now).doc ≡ true)) }
+    ensures test { result ≡ lawful (R.shaped rows.now).doc }
+    ensures laws { Decides result (Lawful (R.shaped rows.now).doc × (topped (R.shaped rows.now).doc ≡ true)) }
 {
     keeps_laws(rows)
 }

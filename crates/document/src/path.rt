@@ -24,7 +24,7 @@ fn names(e: Entry, id: ObjId) -> bool
 
 // The place in a row at which an object is named.
 fn seek<D: Document>(doc: &D, row: ObjId, id: ObjId) -> Option<usize>
-    ensures { Sought (find (rows doc.now).doc (rank row)) (rank id) result }
+    ensures { Sought (find (D.rows doc.now).doc (rank row)) (rank id) result }
 {
     for n in 0..doc.size(row) {
         let Some(e) = doc.entry(row, n) else {
@@ -41,7 +41,7 @@ fn seek<D: Document>(doc: &D, row: ObjId, id: ObjId) -> Option<usize>
 // parent, through the entry that names it. None where it is hidden.
 fn link<D: Document>(doc: &D, id: ObjId) -> Option<PathStep>
     requires { 0 < rank id }
-    ensures { Linked (rows doc.now).doc id result }
+    ensures { Linked (D.rows doc.now).doc id result }
 {
     let child = doc.object(id)?;
     let parent = doc.object(child.parent)?;
@@ -55,7 +55,7 @@ fn link<D: Document>(doc: &D, id: ObjId) -> Option<PathStep>
 // Writes the steps to an object, those that have a place, and tells how many
 // there are; none where a link on the way to the root is hidden.
 fn climb<D: Document>(doc: &D, id: ObjId, steps: &mut [PathStep]) -> Option<usize>
-    ensures { Climbed (rows doc.now).doc (path_of (rows doc.now).doc id) steps.old steps.new result }
+    ensures { Climbed (D.rows doc.now).doc (path_of (D.rows doc.now).doc id) steps.old steps.new result }
 {
     if same(id, ObjId::root()) {
         return Some(0);
@@ -71,7 +71,7 @@ fn climb<D: Document>(doc: &D, id: ObjId, steps: &mut [PathStep]) -> Option<usiz
 // The path of an object: the steps from the root, written into the places
 // that are lent, as many as have one.
 pub fn get_path<D: Document>(doc: &D, id: ObjId, steps: &mut [PathStep]) -> PathAnswer
-    ensures { Answered (rows doc.now).doc (path_of (rows doc.now).doc id) steps.old steps.new result }
+    ensures { Answered (D.rows doc.now).doc (path_of (D.rows doc.now).doc id) steps.old steps.new result }
 {
     match climb(doc, id, steps) {
         None => PathAnswer::NoPath,

@@ -1,5 +1,5 @@
 -- Paths lead to objects; what a change at the end of one does to the whole value.
-use Rattle.std.proofs.Common.{◌≡◌, ℕ, zero, suc, ◌+◌, ◌<◌, ◌≤◌, Bool, List, [], ◌∷◌, ◌++◌, Ok, Ordering, Less, Equal, Greater, sym, refl, ap, ◌∙◌, subst, inl, inr, arith}
+use Rattle.std.proofs.Common.{◌≡◌, ℕ, zero, suc, ◌<◌, ◌≤◌, Bool, List, [], ◌∷◌, ◌++◌, Ok, Ordering, Less, Equal, Greater, sym, refl, ap, ◌∙◌, subst, inl, inr, arith}
 use mathlib.Core.Option.{Option, none, some}
 use Rattle.types.specs.declared.error.Refusal.TheVariants.{ApplyInvalidProp}
 use Rattle.meaning.specs.Results.{Answer, on_ok, and_then}

@@ -1,5 +1,5 @@
 -- A lawful document's value counts for no more than its rows.
-use Rattle.std.proofs.Common.{◌≡◌, ℕ, ◌+◌, ◌<◌, ◌≤◌, Bool, true, false, cond, eqb, ◌⊎◌, List, [], ◌∷◌, ◌++◌, length, sym, refl, ap, ◌∙◌, subst, inl, inr, arith}
+use Rattle.std.proofs.Common.{◌≡◌, ℕ, ◌<◌, ◌≤◌, Bool, true, false, cond, eqb, ◌⊎◌, List, [], ◌∷◌, ◌++◌, length, sym, refl, ap, ◌∙◌, subst, inl, inr, arith}
 use Rattle.types.specs.declared.types.OpId.{OpId}
 use Rattle.types.specs.declared.types.ObjType.TheVariants.{Map}
 use Rattle.meaning.specs.Lists.{In, Every, Apart, memb}

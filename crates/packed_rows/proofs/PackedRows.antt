@@ -1,5 +1,5 @@
 -- The rows of packed places, and what a splice leaves of them.
-use Rattle.std.proofs.Common.{◌≡◌, ℕ, ◌+◌, ◌-◌, ◌<◌, ◌≤◌, min, List, [], length, get_or, take, drop, sym, ap, ◌∙◌, ⊎_elim, arith, length-drop, length-take, get_or-drop, rules}
+use Rattle.std.proofs.Common.{◌≡◌, ℕ, ◌+◌, ◌-◌, ◌<◌, ◌≤◌, min, List, [], length, get_or, take, drop, sym, ◌∙◌, ⊎_elim, arith, length-drop, length-take, get_or-drop, rules}
 use Rattle.std.proofs.lemmas.List.{places, same_lists, get_or_past, get_or-take}
 use Rattle.std.proofs.lemmas.Bool.{cases_lt}
 use Rattle.sequence_tree.specs.Lists.{spliced, Replaced}

@@ -1,6 +1,6 @@
 -- The bytes that a call brings: its key, and the string or byte string that it places.
 use Rattle.std.specs.Prelude.{ℕ, List, []}
-use Rattle.meaning.specs.Entries.{Scalar, null, boolean, int, uint, timestamp, counter, str, bytes, Content, scalar_of, object_of, Entry}
+use Rattle.meaning.specs.Entries.{Scalar, null, boolean, int, uint, timestamp, counter, str, bytes, Content, scalar_of, object_of}
 use Rattle.meaning.specs.Patches.{Prop, key, pos}
 use Rattle.meaning.specs.Calls.{Call, put_call, insert_call, delete_seq_call, delete_map_call, increment_call, flag_call, splice_call}
 

@@ -1,5 +1,4 @@
 -- What is lent of a call, as the meaning has it.
-use Rattle.std.specs.Prelude.{ℕ, List}
 use Rattle.types.specs.declared.value.ScalarValue.{ScalarValue}
 use Rattle.types.specs.declared.value.ScalarValue.TheVariants.{Null, Boolean, Int, Uint, Timestamp, Counter, Str, Bytes}
 use Rattle.types.specs.declared.value.Value.{Value}

@@ -1,5 +1,5 @@
 -- UTF-8 as RFC 3629 defines it. Octets and character numbers are plain numbers.
-use Rattle.std.specs.Prelude.{◌≡◌, ℕ, ◌+◌, ◌/◌, ◌%◌, ◌^◌, Bool, true, false, cond, not, ◌&&◌, List, [], ◌∷◌, ◌++◌, nat_le}
+use Rattle.std.specs.Prelude.{◌≡◌, ℕ, ◌+◌, ◌/◌, ◌%◌, ◌^◌, Bool, true, cond, not, ◌&&◌, List, [], ◌∷◌, ◌++◌, nat_le}
 use Rattle.std.specs.Str.{continuation_len, lead_bits, chars_after, bytes_eq}
 
 -- The form of an octet: its fixed bits with every x bit 0, and how many x bits it ends in.

@@ -1,4 +1,3 @@
-use Rattle.std.specs.Prelude.{ℕ}
 use Rattle.types.specs.declared.bounds.Bounds.{Bounds}
 
 -- Every bound of the product.

@@ -1,5 +1,4 @@
-use Rattle.std.proofs.Common.{◌+◌, ◌-◌, ◌<◌, ◌≤◌, length, arith}
-use Rattle.packed_rows.specs.Rows.{used}
+use Rattle.std.proofs.Common.{◌+◌, ◌-◌, length, arith}
 use Rattle.packed_rows.proofs.PackedRows.{bounds, row_spliced}
 use Rattle.packed_rows.proofs.rows.splice_row.Goals as goal
 

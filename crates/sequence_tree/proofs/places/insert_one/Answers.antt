@@ -1,4 +1,3 @@
-use Rattle.std.proofs.Common.{◌≡◌, ◌+◌, [], ◌∷◌, length, take, set, sym, ap, ◌∙◌, arith, length-set}
 use Rattle.sequence_tree.proofs.Splices.{put_is}
 use Rattle.sequence_tree.proofs.places.insert_one.Goals as goal
 

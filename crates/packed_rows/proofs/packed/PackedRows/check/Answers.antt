@@ -1,4 +1,4 @@
-use Rattle.std.proofs.Common.{◌≡◌, ◌+◌, ◌-◌, ◌<◌, ap, ◌∙◌, arith}
+use Rattle.std.proofs.Common.{◌+◌, ◌-◌, ap, ◌∙◌, arith}
 use Rattle.sequence_tree.specs.Refusals.{splicing}
 use Rattle.packed_rows.specs.Packs.{used_in, room_in}
 use Rattle.packed_rows.proofs.Packing.{row_answer}

@@ -44,7 +44,7 @@ invariant_of-self g c =
     let a = admitted c.args.self.now c.args.i c.args.at c.args.k (length c.args.xs.now) _ c.in_ok-check.ensures in
     let r = rows_after p c.args.i c.args.at c.args.k c.start-from.result c.args.xs.now c.splice.new.self.places.now c.move_on.new.self.at.now
     a c.start-from.ensures c.splice.ensures.room c.move_on.ensures.len c.splice.ensures.parts c.move_on.ensures.moved in
-    (r.lawful.rising, (omega (arith, r.count, c.splice.ensures.len, p.counted), (c.splice.ensures.fits, (omega (arith, a.free, c.splice.ensures.len, p.counted), tt))))
+    record { rising = r.lawful.rising; counted = omega (arith, r.count, c.splice.ensures.len, p.counted); fits = c.splice.ensures.fits; small = omega (arith, a.free, c.splice.ensures.len, p.counted) }
 
 pub returns : goal.returns
 returns g c =
