@@ -1,5 +1,5 @@
 -- Where nodes lie in memory: each container's chain of children, and the free places as the chain of one more node.
-use Rattle.std.specs.Prelude.{◌≡◌, ℕ, ◌+◌, ◌-◌, ◌<◌, ◌≤◌, false, ◌⊎◌, List, [], ◌∷◌, map, length, get_or, take, drop, ◌≢◌, slice_index, slice_index_or}
+use Rattle.std.specs.Prelude.{◌≡◌, ℕ, ◌+◌, ◌<◌, ◌≤◌, false, ◌⊎◌, List, [], ◌∷◌, map, length, get_or, take, drop, ◌≢◌, slice_index, slice_index_or}
 use Rattle.sequence_tree.specs.Lists.{spliced}
 use Rattle.packed_rows.specs.Rows.{row, Packed}
 use Rattle.node_chains.specs.Tree.{Tree, tree, Shape, Under, weight, weights, forest, total}

@@ -1,8 +1,8 @@
 -- Total orders with their laws.
-use Rattle.std.specs.Prelude.{◌≡◌, ℕ, true, false, List, refl}
+use Rattle.std.specs.Prelude.{◌≡◌, ℕ, List, refl}
 use Rattle.std.specs.declared.cmp.Ordering.TheVariants.{Less, Equal, Greater}
 use Rattle.std.specs.declared.cmp.Ordering.{Ordering}
-use Rattle.std.proofs.Common.{sym, ◌∙◌, ap, true≢false}
+use Rattle.std.proofs.Common.{sym, ap, true≢false}
 use Rattle.std.specs.Ordering.{is_lt, ordering_reverse}
 use Rattle.std.specs.Cmp.{IsTotalOrder, nat_cmp_total, then_total, on_total}
 use Rattle.types.specs.declared.types.OpId.{OpId}
@@ -24,11 +24,11 @@ own_reverse Equal h = refl
 own_reverse Greater h = absurd (true≢false (sym (ap is_lt h)))
 
 -- the order that a lawful comparison of the library gives
-abbrev pub lawful : {X : Type 0} {R : X → X → Ordering → Type 0} → IsTotalOrder R → Order X
-lawful o =
+abbrev pub lawful : {X : Type 0} {R : X → X → Ordering} → IsTotalOrder R → Order X
+lawful {R = R} o =
     record {
-      compare = o.cmp;
-      itself = λ a. own_reverse (o.cmp a a) (o.antisymm a a);
+      compare = R;
+      itself = λ a. own_reverse (R a a) (o.antisymm a a);
       flip = λ a b. o.antisymm b a;
       trans = o.trans;
       alike = o.congr;
@@ -51,7 +51,7 @@ by_bytes = lawful (lists_total nat_cmp_total)
 
 -- identities by counter, then by actor
 abbrev pub by_id : Order OpId
-by_id = by (λ (x : OpId). (x.counter, x.actor)) (lawful (then_total (on_total (λ p. p.0) nat_cmp_total) (on_total (λ p. p.1) nat_cmp_total)))
+by_id = by {X = ℕ × ℕ} (λ (x : OpId). (x.counter, x.actor)) (lawful (then_total (on_total (λ p. p.0) nat_cmp_total) (on_total (λ p. p.1) nat_cmp_total)))
 
 abbrev pub by_object : Order ObjId
 by_object = by (λ (x : ObjId). x.0) by_id

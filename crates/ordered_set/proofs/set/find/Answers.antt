@@ -1,4 +1,4 @@
-use Rattle.std.proofs.Common.{◌≡◌, ◌+◌, ◌-◌, ◌/◌, ◌<◌, ◌≤◌, length, sym, arith}
+use Rattle.std.proofs.Common.{◌≡◌, ◌+◌, ◌-◌, ◌/◌, sym, arith}
 use Rattle.ordered_set.proofs.Searches.{less_upto, greater_from, found_here, found_not}
 use Rattle.ordered_set.proofs.set.find.Goals as goal
 

@@ -1,4 +1,4 @@
-use Rattle.std.proofs.Common.{◌≡◌, ◌<◌, length, take, sym, refl, ◌∙◌, arith, length-take}
+use Rattle.std.proofs.Common.{◌<◌, length, take, sym, refl, ◌∙◌, arith, length-take}
 use Rattle.std.proofs.lemmas.List.{get_or-take}
 use Rattle.std.proofs.lemmas.Option.{slice_get_read}
 use Rattle.ordered_set.proofs.set.first_of.Goals as goal
