@@ -11,7 +11,7 @@ use types::bounds::{VALUE_BYTES, VALUE_ENTRIES, VALUE_UNITS};
 
 // The room that an entry leaves of `room` bytes; none where it has too little.
 fn spend_entry<R: Rows>(rows: &R, i: usize, n: usize, room: usize) -> Option<usize>
-    ensures { result ≡ left room (pair_bytes (entry_told (nth (Shaped rows.now).doc i) n)) }
+    ensures { result ≡ left room (pair_bytes (entry_told (nth (R.shaped rows.now).doc i) n)) }
 {
     match rows.entry(i, n) {
         Some(e) => room
@@ -23,7 +23,7 @@ fn spend_entry<R: Rows>(rows: &R, i: usize, n: usize, room: usize) -> Option<usi
 
 // The same of a row that is no text.
 fn spend_bytes<R: Rows>(rows: &R, i: usize, room: usize) -> Option<usize>
-    ensures { result ≡ left room (counts_told (nth (Shaped rows.now).doc i)).byte_count }
+    ensures { result ≡ left room (counts_told (nth (R.shaped rows.now).doc i)).byte_count }
 {
     let mut left = room;
     for n in 0..rows.size(i) {
@@ -37,7 +37,7 @@ fn spend_bytes<R: Rows>(rows: &R, i: usize, room: usize) -> Option<usize>
 
 // The room that an object leaves; none where it has too little.
 fn spend_row<R: Rows>(rows: &R, i: usize, room: Room) -> Option<Room>
-    ensures { result ≡ taken_up room (counts_told (nth (Shaped rows.now).doc i)) }
+    ensures { result ≡ taken_up room (counts_told (nth (R.shaped rows.now).doc i)) }
 {
     match rows.text(i) {
         Some(t) => {
@@ -62,7 +62,7 @@ fn spend_row<R: Rows>(rows: &R, i: usize, room: Room) -> Option<Room>
 
 // Whether all rows together stay within the bounds of a value.
 pub fn check_counts<R: Rows>(rows: &R) -> bool
-    ensures { result ≡ within_value (doc_counts (Shaped rows.now).doc) }
+    ensures { result ≡ within_value (doc_counts (R.shaped rows.now).doc) }
 {
     let mut room = Room {
         entries: VALUE_ENTRIES,

@@ -13,8 +13,8 @@ use types::types::ObjId;
 
 // The place of the object with that identity, by halves.
 pub fn find_in<R: Rows>(rows: &R, id: ObjId) -> Option<usize>
-    requires { rises (Shaped rows.now).doc ≡ true }
-    ensures { Found (Shaped rows.now).doc (rank id) result }
+    requires { rises (R.shaped rows.now).doc ≡ true }
+    ensures { Found (R.shaped rows.now).doc (rank id) result }
 {
     let mut lo = 0;
     let mut hi = rows.count();
@@ -36,8 +36,8 @@ pub fn find_in<R: Rows>(rows: &R, id: ObjId) -> Option<usize>
 
 // What rows tell by identity, where identities rise.
 pub fn object_in<R: Rows>(rows: &R, id: ObjId) -> Option<Head>
-    requires { rises (Shaped rows.now).doc ≡ true }
-    ensures { result ≡ head_told (find (Shaped rows.now).doc (rank id)) }
+    requires { rises (R.shaped rows.now).doc ≡ true }
+    ensures { result ≡ head_told (find (R.shaped rows.now).doc (rank id)) }
 {
     match find_in(rows, id) {
         Some(i) => rows.head(i),
@@ -46,8 +46,8 @@ pub fn object_in<R: Rows>(rows: &R, id: ObjId) -> Option<Head>
 }
 
 pub fn size_in<R: Rows>(rows: &R, id: ObjId) -> usize
-    requires { rises (Shaped rows.now).doc ≡ true }
-    ensures { result ≡ size_told (find (Shaped rows.now).doc (rank id)) }
+    requires { rises (R.shaped rows.now).doc ≡ true }
+    ensures { result ≡ size_told (find (R.shaped rows.now).doc (rank id)) }
 {
     match find_in(rows, id) {
         Some(i) => rows.size(i),
@@ -56,8 +56,8 @@ pub fn size_in<R: Rows>(rows: &R, id: ObjId) -> usize
 }
 
 pub fn entry_in<R: Rows>(rows: &R, id: ObjId, n: usize) -> Option<Entry<'_>>
-    requires { rises (Shaped rows.now).doc ≡ true }
-    ensures { an_entry_seen result ≡ entry_told (find (Shaped rows.now).doc (rank id)) n }
+    requires { rises (R.shaped rows.now).doc ≡ true }
+    ensures { an_entry_seen result ≡ entry_told (find (R.shaped rows.now).doc (rank id)) n }
 {
     match find_in(rows, id) {
         Some(i) => rows.entry(i, n),
@@ -66,8 +66,8 @@ pub fn entry_in<R: Rows>(rows: &R, id: ObjId, n: usize) -> Option<Entry<'_>>
 }
 
 pub fn text_in<R: Rows>(rows: &R, id: ObjId) -> Option<&[u8]>
-    requires { rises (Shaped rows.now).doc ≡ true }
-    ensures { bytes_seen result ≡ text_told (find (Shaped rows.now).doc (rank id)) }
+    requires { rises (R.shaped rows.now).doc ≡ true }
+    ensures { bytes_seen result ≡ text_told (find (R.shaped rows.now).doc (rank id)) }
 {
     match find_in(rows, id) {
         Some(i) => rows.text(i),

@@ -10,7 +10,7 @@ use types::types::{ObjId, ObjType};
 
 // Whether one object comes before another, by their places.
 fn in_order<R: Rows>(rows: &R, i: usize, j: usize) -> bool
-    ensures { result ≡ ordered earlier (nth (Shaped rows.now).doc i) (nth (Shaped rows.now).doc j) }
+    ensures { result ≡ ordered earlier (nth (R.shaped rows.now).doc i) (nth (R.shaped rows.now).doc j) }
 {
     match (rows.head(i), rows.head(j)) {
         (Some(a), Some(b)) => before(a.id, b.id),
@@ -20,7 +20,7 @@ fn in_order<R: Rows>(rows: &R, i: usize, j: usize) -> bool
 
 // Whether the objects' identities rise.
 pub fn check_rising<R: Rows>(rows: &R) -> bool
-    ensures { result ≡ rises (Shaped rows.now).doc }
+    ensures { result ≡ rises (R.shaped rows.now).doc }
 {
     for i in 0..rows.count() {
         if !in_order(rows, i, i + 1) {
@@ -32,8 +32,8 @@ pub fn check_rising<R: Rows>(rows: &R) -> bool
 
 // Whether the root is there, is a map and is its own parent.
 pub fn check_root<R: Rows>(rows: &R) -> bool
-    requires { rises (Shaped rows.now).doc ≡ true }
-    ensures { result ≡ rooted (Shaped rows.now).doc }
+    requires { rises (R.shaped rows.now).doc ≡ true }
+    ensures { result ≡ rooted (R.shaped rows.now).doc }
 {
     match object_in(rows, ObjId::root()) {
         Some(h) => same_kind(h.kind, ObjType::Map) && same(h.parent, ObjId::root()),
@@ -44,8 +44,8 @@ pub fn check_root<R: Rows>(rows: &R) -> bool
 // Whether the object at a place is the root, or has a counter above 0 and a
 // parent that comes before it.
 fn is_child<R: Rows>(rows: &R, i: usize) -> bool
-    requires { rises (Shaped rows.now).doc ≡ true }
-    ensures { result ≡ passes (child_ok (Shaped rows.now).doc) (nth (Shaped rows.now).doc i) }
+    requires { rises (R.shaped rows.now).doc ≡ true }
+    ensures { result ≡ passes (child_ok (R.shaped rows.now).doc) (nth (R.shaped rows.now).doc i) }
 {
     match rows.head(i) {
         Some(h) => {
@@ -60,8 +60,8 @@ fn is_child<R: Rows>(rows: &R, i: usize) -> bool
 
 // Whether every object but the root has its parent.
 pub fn check_children<R: Rows>(rows: &R) -> bool
-    requires { rises (Shaped rows.now).doc ≡ true }
-    ensures { result ≡ every (child_ok (Shaped rows.now).doc) (Shaped rows.now).doc }
+    requires { rises (R.shaped rows.now).doc ≡ true }
+    ensures { result ≡ every (child_ok (R.shaped rows.now).doc) (R.shaped rows.now).doc }
 {
     for i in 0..rows.count() {
         if !is_child(rows, i) {

@@ -17,8 +17,8 @@ use types::value::Value;
 // The place of the object that an entry names, where it may: an object of
 // that kind, not the root, whose parent is the row's object.
 fn named_place<R: Rows>(rows: &R, owner: ObjId, id: ObjId, kind: ObjType) -> Option<usize>
-    requires { rises (Shaped rows.now).doc ≡ true }
-    ensures { Names (Shaped rows.now).doc (rank owner) (record { kind = kind; object = id }) result }
+    requires { rises (R.shaped rows.now).doc ≡ true }
+    ensures { Names (R.shaped rows.now).doc (rank owner) (record { kind = kind; object = id }) result }
 {
     if same(id, ObjId::root()) {
         return None;
@@ -41,9 +41,9 @@ fn enter_object<R: Rows>(
     kind: ObjType,
     marks: &mut [bool],
 ) -> bool
-    requires rising { rises (Shaped rows.now).doc ≡ true }
-    requires room { length (Shaped rows.now).doc ≤ length marks.old }
-    ensures { (seen : List ℕ) → Marked (Shaped rows.now).doc (rank owner) marks.old seen → Enters (Shaped rows.now).doc (rank owner) seen (record { kind = kind; object = id } ∷ []) marks.new result }
+    requires rising { rises (R.shaped rows.now).doc ≡ true }
+    requires room { length (R.shaped rows.now).doc ≤ length marks.old }
+    ensures { (seen : List ℕ) → Marked (R.shaped rows.now).doc (rank owner) marks.old seen → Enters (R.shaped rows.now).doc (rank owner) seen (record { kind = kind; object = id } ∷ []) marks.new result }
 {
     let Some(j) = named_place(rows, owner, id, kind) else {
         return false;
@@ -56,9 +56,9 @@ fn enter_object<R: Rows>(
 }
 
 fn enter_entry<R: Rows>(rows: &R, owner: ObjId, e: Entry, marks: &mut [bool]) -> bool
-    requires rising { rises (Shaped rows.now).doc ≡ true }
-    requires room { length (Shaped rows.now).doc ≤ length marks.old }
-    ensures { (seen : List ℕ) → Marked (Shaped rows.now).doc (rank owner) marks.old seen → Enters (Shaped rows.now).doc (rank owner) seen (ref_of (content_seen e.entry.value) e.entry.id) marks.new result }
+    requires rising { rises (R.shaped rows.now).doc ≡ true }
+    requires room { length (R.shaped rows.now).doc ≤ length marks.old }
+    ensures { (seen : List ℕ) → Marked (R.shaped rows.now).doc (rank owner) marks.old seen → Enters (R.shaped rows.now).doc (rank owner) seen (ref_of (content_seen e.entry.value) e.entry.id) marks.new result }
 {
     match e.value {
         Value::Object(kind) => enter_object(rows, owner, ObjId(e.id), kind, marks),
@@ -67,9 +67,9 @@ fn enter_entry<R: Rows>(rows: &R, owner: ObjId, e: Entry, marks: &mut [bool]) ->
 }
 
 fn enter_at<R: Rows>(rows: &R, owner: ObjId, i: usize, n: usize, marks: &mut [bool]) -> bool
-    requires rising { rises (Shaped rows.now).doc ≡ true }
-    requires room { length (Shaped rows.now).doc ≤ length marks.old }
-    ensures { (seen : List ℕ) → Marked (Shaped rows.now).doc (rank owner) marks.old seen → Enters (Shaped rows.now).doc (rank owner) seen (refs_at (entry_told (nth (Shaped rows.now).doc i) n)) marks.new result }
+    requires rising { rises (R.shaped rows.now).doc ≡ true }
+    requires room { length (R.shaped rows.now).doc ≤ length marks.old }
+    ensures { (seen : List ℕ) → Marked (R.shaped rows.now).doc (rank owner) marks.old seen → Enters (R.shaped rows.now).doc (rank owner) seen (refs_at (entry_told (nth (R.shaped rows.now).doc i) n)) marks.new result }
 {
     match rows.entry(i, n) {
         Some(e) => enter_entry(rows, owner, e, marks),
@@ -80,11 +80,11 @@ fn enter_at<R: Rows>(rows: &R, owner: ObjId, i: usize, n: usize, marks: &mut [bo
 // Whether the row at a place names objects as it may, the owner being its
 // object; their marks stay for the later rows.
 fn check_names<R: Rows>(rows: &R, owner: ObjId, i: usize, marks: &mut [bool]) -> bool
-    requires rising { rises (Shaped rows.now).doc ≡ true }
-    requires room { length (Shaped rows.now).doc ≤ length marks.old }
-    requires none { Marked (Shaped rows.now).doc (rank owner) marks.old [] }
-    ensures test { result ≡ named (Shaped rows.now).doc (rank owner) [] (refs_of (pairs_told (nth (Shaped rows.now).doc i))) }
-    ensures later { result ≡ true → Later (Shaped rows.now).doc (rank owner) marks.new }
+    requires rising { rises (R.shaped rows.now).doc ≡ true }
+    requires room { length (R.shaped rows.now).doc ≤ length marks.old }
+    requires none { Marked (R.shaped rows.now).doc (rank owner) marks.old [] }
+    ensures test { result ≡ named (R.shaped rows.now).doc (rank owner) [] (refs_of (pairs_told (nth (R.shaped rows.now).doc i))) }
+    ensures later { result ≡ true → Later (R.shaped rows.now).doc (rank owner) marks.new }
 {
     for n in 0..rows.size(i) {
         if !enter_at(rows, owner, i, n, marks) {
@@ -95,11 +95,11 @@ fn check_names<R: Rows>(rows: &R, owner: ObjId, i: usize, marks: &mut [bool]) ->
 }
 
 fn check_names_at<R: Rows>(rows: &R, i: usize, marks: &mut [bool]) -> bool
-    requires rising { rises (Shaped rows.now).doc ≡ true }
-    requires room { length (Shaped rows.now).doc ≤ length marks.old }
-    requires clear { ClearAt (Shaped rows.now).doc (nth (Shaped rows.now).doc i) marks.old }
-    ensures test { result ≡ passes (refs_ok (Shaped rows.now).doc) (nth (Shaped rows.now).doc i) }
-    ensures later { result ≡ true → LaterAt (Shaped rows.now).doc (nth (Shaped rows.now).doc i) marks.new }
+    requires rising { rises (R.shaped rows.now).doc ≡ true }
+    requires room { length (R.shaped rows.now).doc ≤ length marks.old }
+    requires clear { ClearAt (R.shaped rows.now).doc (nth (R.shaped rows.now).doc i) marks.old }
+    ensures test { result ≡ passes (refs_ok (R.shaped rows.now).doc) (nth (R.shaped rows.now).doc i) }
+    ensures later { result ≡ true → LaterAt (R.shaped rows.now).doc (nth (R.shaped rows.now).doc i) marks.new }
 {
     let Some(h) = rows.head(i) else {
         return true;
@@ -113,9 +113,9 @@ fn check_names_at<R: Rows>(rows: &R, i: usize, marks: &mut [bool]) -> bool
 // Whether every object entry names an object of its kind, in its parent's
 // row, and none twice.
 pub fn check_all_names<R: Rows>(rows: &R) -> bool
-    requires rising { rises (Shaped rows.now).doc ≡ true }
-    requires few { length (Shaped rows.now).doc ≤ 1024 }
-    ensures { result ≡ every (refs_ok (Shaped rows.now).doc) (Shaped rows.now).doc }
+    requires rising { rises (R.shaped rows.now).doc ≡ true }
+    requires few { length (R.shaped rows.now).doc ≤ 1024 }
+    ensures { result ≡ every (refs_ok (R.shaped rows.now).doc) (R.shaped rows.now).doc }
 {
     let mut marks = [false; DOCUMENT_OBJECTS];
     for i in 0..rows.count() {

@@ -41,7 +41,7 @@ fn is_good(e: Entry) -> bool
 }
 
 fn is_good_at<R: Rows>(rows: &R, i: usize, n: usize) -> bool
-    ensures { result ≡ passes good_pair (entry_told (nth (Shaped rows.now).doc i) n) }
+    ensures { result ≡ passes good_pair (entry_told (nth (R.shaped rows.now).doc i) n) }
 {
     match rows.entry(i, n) {
         Some(e) => is_good(e),
@@ -51,7 +51,7 @@ fn is_good_at<R: Rows>(rows: &R, i: usize, n: usize) -> bool
 
 // Whether a row's keys and entries are good by themselves.
 fn check_entries<R: Rows>(rows: &R, i: usize) -> bool
-    ensures { result ≡ every good_pair (pairs_told (nth (Shaped rows.now).doc i)) }
+    ensures { result ≡ every good_pair (pairs_told (nth (R.shaped rows.now).doc i)) }
 {
     for n in 0..rows.size(i) {
         if !is_good_at(rows, i, n) {
@@ -69,7 +69,7 @@ fn key_before(a: &[u8], b: &[u8]) -> bool
 }
 
 fn keys_in_order<R: Rows>(rows: &R, i: usize, n: usize, m: usize) -> bool
-    ensures { result ≡ ordered key_before (entry_told (nth (Shaped rows.now).doc i) n) (entry_told (nth (Shaped rows.now).doc i) m) }
+    ensures { result ≡ ordered key_before (entry_told (nth (R.shaped rows.now).doc i) n) (entry_told (nth (R.shaped rows.now).doc i) m) }
 {
     match (rows.entry(i, n), rows.entry(i, m)) {
         (Some(a), Some(b)) => key_before(a.key, b.key),
@@ -79,7 +79,7 @@ fn keys_in_order<R: Rows>(rows: &R, i: usize, n: usize, m: usize) -> bool
 
 // Whether each key of a row comes before the next.
 fn check_chain<R: Rows>(rows: &R, i: usize) -> bool
-    ensures { result ≡ chained key_before (pairs_told (nth (Shaped rows.now).doc i)) }
+    ensures { result ≡ chained key_before (pairs_told (nth (R.shaped rows.now).doc i)) }
 {
     for n in 0..rows.size(i) {
         if !keys_in_order(rows, i, n, n + 1) {
@@ -91,7 +91,7 @@ fn check_chain<R: Rows>(rows: &R, i: usize) -> bool
 
 // Whether a map's or table's keys rise.
 fn check_keys<R: Rows>(rows: &R, i: usize) -> bool
-    ensures { result ≡ keys_told (nth (Shaped rows.now).doc i) }
+    ensures { result ≡ keys_told (nth (R.shaped rows.now).doc i) }
 {
     match rows.head(i) {
         Some(h) => h.kind.is_sequence() || check_chain(rows, i),
@@ -101,7 +101,7 @@ fn check_keys<R: Rows>(rows: &R, i: usize) -> bool
 
 // Whether a row is lawful by itself.
 fn check_row<R: Rows>(rows: &R, i: usize) -> bool
-    ensures { result ≡ passes row_ok (nth (Shaped rows.now).doc i) }
+    ensures { result ≡ passes row_ok (nth (R.shaped rows.now).doc i) }
 {
     match rows.text(i) {
         Some(t) => is_utf8(t),
@@ -111,7 +111,7 @@ fn check_row<R: Rows>(rows: &R, i: usize) -> bool
 
 // Whether every row is.
 pub fn check_each_row<R: Rows>(rows: &R) -> bool
-    ensures { result ≡ every row_ok (Shaped rows.now).doc }
+    ensures { result ≡ every row_ok (R.shaped rows.now).doc }
 {
     for i in 0..rows.count() {
         if !check_row(rows, i) {
