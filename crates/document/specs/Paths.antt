@@ -1,5 +1,5 @@
 -- Paths, as they are found and written.
-use Rattle.std.specs.Prelude.{◌≡◌, ℕ, ◌+◌, ◌<◌, ◌≤◌, Bool, false, List, [], ◌∷◌, ◌++◌, length, take, drop, Some, None, Option as Answer, ◌==◌}
+use Rattle.std.specs.Prelude.{◌≡◌, ℕ, ◌<◌, ◌≤◌, Bool, false, List, [], ◌∷◌, ◌++◌, length, take, drop, Some, None, Option as Answer, ◌==◌}
 use Rattle.std.proofs.Math.Option.{Option, none, some, map}
 use Rattle.types.specs.Limits.{limits}
 use Rattle.types.specs.declared.types.OpId.{OpId}

@@ -1,4 +1,4 @@
-use Rattle.std.proofs.Common.{◌+◌, List, [], ◌∷◌, ◌++◌, set, sym, refl, ap, ◌∙◌, subst, arith, length-append}
+use Rattle.std.proofs.Common.{List, [], ◌∷◌, ◌++◌, set, sym, refl, ap, ◌∙◌, subst, arith, length-append}
 use mathlib.Core.Option.{map}
 use Rattle.std.proofs.lemmas.Bool.{eqb-true}
 use Rattle.types.specs.declared.types.ObjId.{ObjId}
