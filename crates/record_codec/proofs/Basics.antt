@@ -1,5 +1,5 @@
 -- What the readers of numbers and bytes find.
-use Rattle.std.proofs.Common.{◌≡◌, ℕ, ◌+◌, ◌-◌, ◌*◌, ◌≤◌, leb, List, [], ◌∷◌, length, get_or, take, drop, Some, None, sym, ap, arith}
+use Rattle.std.proofs.Common.{◌≡◌, ℕ, ◌+◌, ◌*◌, ◌≤◌, leb, List, [], ◌∷◌, length, get_or, take, drop, Some, None, sym, ap, arith}
 use Rattle.std.proofs.lemmas.Bool.{le-leb, cond-true}
 use Rattle.record_codec.specs.Codec.{Got, get32, get_bytes}
 
