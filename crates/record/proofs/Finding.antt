@@ -1,5 +1,6 @@
 -- What an index of a record tells: objects and entries by their places.
-use Rattle.std.proofs.Common.{◌≡◌, ℕ, zero, suc, ◌+◌, ◌-◌, ◌<◌, ◌≤◌, Bool, true, false, ◌&&◌, eqb, ltb, leb, List, [], ◌∷◌, ◌++◌, length, get_or, take, drop, is_some, Some, None, Option, sym, refl, ap, ◌∙◌, subst, append_assoc, add_assoc, arith, length-append, length-drop, length-take, get_or-take, MutBor}
+use Rattle.std.proofs.Common.{◌≡◌, ℕ, zero, suc, ◌+◌, ◌-◌, ◌<◌, ◌≤◌, Bool, true, false, ◌&&◌, eqb, ltb, leb, List, [], ◌∷◌, ◌++◌, length, get_or, take, drop, is_some, Some, None, Option, sym, refl, ap, ◌∙◌, subst, append_assoc, add_assoc, arith, length-append, length-drop, length-take, get_or-take}
+use Rattle.std.specs.Borrow.{Bor}
 use mathlib.Core.Option.{none, some}
 use Rattle.std.proofs.lemmas.List.{append-nil, drop_more, drop_all, get_or_append_left, get_or-append-add}
 use Rattle.std.proofs.lemmas.Bool.{le-leb, eq-eqb, ltb-true, and_parts, cond-true, false≢true}
@@ -196,7 +197,7 @@ module _ (bs starts : List ℕ) (objects i : ℕ) (B : Bytes bs) (said : is_some
       }
 
   -- What the reader of heads gives there.
-  pub found_at : (r : Option (Head × MutBor (List ℕ))) (x : List ℕ) → x ≡ drop (get_or starts i 0) bs → saw itself r ≡ get_head x → i < objects → FoundAt (doc_of bs) i r
+  pub found_at : (r : Option (Head × Bor (List ℕ))) (x : List ℕ) → x ≡ drop (get_or starts i 0) bs → saw itself r ≡ get_head x → i < objects → FoundAt (doc_of bs) i r
   found_at None x q e h =
       let f = head_there h in
       let k : ◌≡◌ {A = Got Head} None (Some (head_of f.object, put_row f.object.row ++ f.more)) = e ∙ (ap get_head q ∙ f.got) in

@@ -28,7 +28,7 @@ loop-i-preserved c =
 pub loop-i-init : goal.loop-i-init
 loop-i-init c = (
   [],
-  starts_out (put_slot c.args.keyed) (WritableSlot c.args.keyed) c.args.total c.args.from c.args.bytes.now c.args.places.now (typed_bytes c.args.bytes.now c.type-inv.bytes),
+  starts_out (put_slot c.args.keyed) (WritableSlot c.args.keyed) c.args.total c.args.from c.args.bytes.now c.args.places.now (typed_bytes c.args.bytes.now c.type_inv.bytes),
   omega (arith, c.requires.room),
   omega arith,
 )

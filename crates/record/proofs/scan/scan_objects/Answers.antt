@@ -1,11 +1,11 @@
-use Rattle.std.proofs.Common.{◌+◌, ◌<◌, [], ◌∷◌, ◌++◌, length, sym, arith}
+use Rattle.std.proofs.Common.{◌<◌, [], ◌∷◌, ◌++◌, length, sym, arith}
 use Rattle.record_codec.specs.Layout.{object_as}
 use Rattle.record.proofs.Indexing.{typed_bytes}
 use Rattle.record.proofs.Scanning.{filling_starts, no_head, no_row, row_room, filling_ends, filling_on}
 use Rattle.record.proofs.scan.scan_objects.Goals as goal
 
 pub loop-i-init : goal.loop-i-init
-loop-i-init c = ([], filling_starts c.args.total c.args.bytes.now c.args.starts.now c.args.firsts.now c.args.places.now (typed_bytes c.args.bytes.now c.type-inv.bytes) c.requires.room, omega arith)
+loop-i-init c = ([], filling_starts c.args.total c.args.bytes.now c.args.starts.now c.args.firsts.now c.args.places.now (typed_bytes c.args.bytes.now c.type_inv.bytes) c.requires.room, omega arith)
 
 pub returns : goal.returns
 returns c = (c.loop-i.invariant.0, filling_ends c.loop-i.i c.loop-i.n c.args.total c.args.bytes.now c.loop-i.starts c.loop-i.firsts c.loop-i.places c.loop-i.rest.now c.loop-i.invariant.0 c.loop-i.invariant.1 c.args.count (omega arith))

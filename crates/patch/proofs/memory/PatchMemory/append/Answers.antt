@@ -14,8 +14,8 @@ use Rattle.patch.proofs.memory.PatchMemory.append.Goals as goal
 pub returns-in_err-check_call : goal.returns-in_err-check_call
 returns-in_err-check_call g c =
     let a = c.args in
-    let p = err_from_is_err_and c.from-residual.result c.from-residual.ensures.1 in
-    let e : c.from-residual.result ≡ Err c.in_err-check_call.field-0.0 = p.1 ∙ ap {B = Result (Unit {0}) Refusal} (λ x. Err x) p.2 in
+    let p = err_from_is_err_and c.from_residual.result c.from_residual.ensures.1 in
+    let e : c.from_residual.result ≡ Err c.in_err-check_call.field-0.0 = p.1 ∙ ap {B = Result (Unit {0}) Refusal} (λ x. Err x) p.2 in
     record {
       answer = e ∙ refused_early a.obj (steps_told a.path.steps.now a.path.keys.now) (call_seen a.call) a.units.now (held_of a.self.now) c.in_err-check_call.field-0.0 (sym c.in_err-check_call.was ∙ c.check_call.ensures);
       held = sym (ap (λ r. cond (is_ok r) (with_own a.obj (steps_told a.path.steps.now a.path.keys.now) (call_seen a.call) a.units.now (held_of a.self.now)) (held_of a.self.now)) e);
