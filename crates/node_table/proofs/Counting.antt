@@ -1,5 +1,5 @@
 -- What trees, values and tables count.
-use Rattle.std.proofs.Common.{◌≡◌, ℕ, zero, suc, ◌+◌, ◌-◌, ◌*◌, ◌<◌, ◌≤◌, Bool, true, false, List, [], ◌∷◌, map, length, get_or, sym, refl, ap, ◌∙◌, arith, length-drop, length-take}
+use Rattle.std.proofs.Common.{◌≡◌, ℕ, zero, suc, ◌+◌, ◌*◌, ◌<◌, ◌≤◌, Bool, true, false, List, [], ◌∷◌, map, length, get_or, sym, refl, ap, ◌∙◌, arith, length-drop, length-take}
 use Rattle.packed_rows.specs.Rows.{row}
 use Rattle.meaning.specs.Entries.{Key, Item, scalar, object, bytes_of_scalar}
 use Rattle.meaning.specs.Values.{Value, Entries, Cells, entry, Counts, plus, one_entry, counts, entries_counts, cells_counts}

@@ -7,7 +7,7 @@ use Rattle.packed_rows.specs.Rows.{row}
 use Rattle.node_table.specs.Kinds.{branches, is_text}
 use Rattle.node_chains.specs.Tree.{node, none, tree, update, reach, Steps, Under, splice_kids, weight, total}
 use Rattle.node_chains.specs.Chains.{Placing, Moved, no_item, item_at, up_at, lev_at, under}
-use Rattle.node_table.specs.Held.{Datum, slot, datum, held, Changed, item_bytes, below, Used, Dry}
+use Rattle.node_table.specs.Held.{Datum, datum, held, Changed, item_bytes, below, Used, Dry}
 use Rattle.node_chains.specs.declared.node.Item.{Item}
 use Rattle.node_chains.specs.declared.node.Node.{Node}
 use Rattle.node_chains.proofs.Frames.{climb, back, depth}

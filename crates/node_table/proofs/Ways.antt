@@ -1,7 +1,7 @@
 -- The way to a container whose children change.
-use Rattle.std.proofs.Common.{◌≡◌, ℕ, ◌+◌, ◌<◌, ◌≤◌, List, [], ◌∷◌, length, get_or, sym, refl, ap, ◌∙◌, subst, arith}
+use Rattle.std.proofs.Common.{◌≡◌, ℕ, ◌<◌, List, [], ◌∷◌, length, get_or, sym, ap, ◌∙◌, subst, arith}
 use Rattle.packed_rows.specs.Rows.{row}
-use Rattle.node_chains.specs.Tree.{reach, Steps, Under}
+use Rattle.node_chains.specs.Tree.{reach, Steps}
 use Rattle.node_chains.specs.Chains.{Placing, Moved, Unlinked, up_at, lev_at}
 use Rattle.node_table.specs.Held.{Stands, Used}
 use Rattle.node_chains.specs.declared.node.Item.{Item}

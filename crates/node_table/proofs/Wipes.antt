@@ -1,11 +1,11 @@
 -- Free places that lose what they held.
-use Rattle.std.proofs.Common.{◌≡◌, ℕ, suc, ◌+◌, ◌-◌, ◌<◌, ◌≤◌, ◌⊎◌, List, [], length, get_or, set, sym, ap, ◌∙◌, subst, ⊎_elim, arith, length-set, get_or-set_other, get_or-set_same}
+use Rattle.std.proofs.Common.{◌≡◌, ℕ, suc, ◌+◌, ◌-◌, ◌<◌, ◌≤◌, List, [], length, get_or, set, sym, ap, ◌∙◌, subst, ⊎_elim, arith, length-set, get_or-set_other, get_or-set_same}
 use Rattle.std.proofs.lemmas.List.{drop_all}
 use Rattle.std.proofs.lemmas.Bool.{cases_eq}
 use Rattle.sequence_tree.specs.Lists.{spliced}
 use Rattle.packed_rows.specs.Rows.{row}
 use Rattle.node_chains.specs.Chains.{Placing, no_item, blank, item_at, up_at, lev_at}
-use Rattle.node_table.specs.Held.{Cleared, Spelled, Wiped, below, item_bytes}
+use Rattle.node_table.specs.Held.{Cleared, Spelled, Wiped, item_bytes}
 use Rattle.node_chains.specs.declared.node.Node.{Node}
 use Rattle.node_table.proofs.Sums.{below_change, below_part}
 

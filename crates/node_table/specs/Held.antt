@@ -1,5 +1,5 @@
 -- What the tables hold: a tree of entries.
-use Rattle.std.specs.Prelude.{◌≡◌, ℕ, zero, suc, ◌+◌, ◌*◌, ◌<◌, ◌≤◌, Bool, true, false, List, [], map, length, take, drop, ℤ, ◌≢◌, slice_index}
+use Rattle.std.specs.Prelude.{◌≡◌, ℕ, zero, suc, ◌+◌, ◌*◌, ◌<◌, ◌≤◌, Bool, true, false, List, [], length, take, drop, ℤ, ◌≢◌, slice_index}
 use Rattle.sequence_tree.specs.Lists.{spliced}
 use Rattle.packed_rows.specs.Rows.{row, used, Packed}
 use Rattle.node_chains.specs.Tree.{Tree, Under, relabel, tree, Steps, reach, update, weight, total}

@@ -38,7 +38,7 @@ pub fn insert_child<U: Copy>(
     requires small { (length chain.old < 2 ^ 31) × (f < 2 ^ 31) }
     ensures lawful { Used f nodes.new starts.new chain.new bytes.new }
     ensures dry { (u : ℕ → List U) → Dry nodes.old u → Dry nodes.new u }
-    ensures changed { (u : ℕ → List U) → Dry nodes.old u → Changed (row starts.old chain.old) o (splice_kids at 0 (node (record { key = key.entry.now; content = content; conflict = conflict; string = string.now; units = [] }) none ∷ [])) (held nodes.old starts.old chain.old keys.old strings.old u) (held nodes.new starts.new chain.new keys.new strings.new u) }
+    ensures changed { (u : ℕ → List U) → Dry nodes.old u → Changed (row starts.old chain.old) o (splice_kids at 0 (node (record { key = key.now; content = content; conflict = conflict; string = string.now; units = [] }) none ∷ [])) (held nodes.old starts.old chain.old keys.old strings.old u) (held nodes.new starts.new chain.new keys.new strings.new u) }
     ensures stands { Stands (row starts.old chain.old) (row starts.new chain.new) o }
 {
     let k = row_len(starts, chain, f) - 1;

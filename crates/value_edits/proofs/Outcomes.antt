@@ -1,11 +1,11 @@
 -- What an edit of the tree at a place leaves of the value, and what its bounds refuse.
-use Rattle.std.proofs.Common.{◌≡◌, ℕ, ◌+◌, ◌<◌, ◌≤◌, Bool, true, false, ◌&&◌, leb, List, [], ◌∷◌, length, is_ok, Ok, Err, sym, refl, ap, ◌∙◌, subst, arith, length-take}
+use Rattle.std.proofs.Common.{◌≡◌, ℕ, ◌+◌, ◌<◌, ◌≤◌, true, false, ◌&&◌, leb, List, length, Ok, Err, sym, refl, ap, ◌∙◌, subst, arith, length-take}
 use Rattle.std.proofs.lemmas.Bool.Decides.{nat_tests}
 use Rattle.types.specs.declared.error.Refusal.{Refusal}
 use Rattle.types.specs.declared.error.Refusal.TheVariants.{ValueFull}
-use Rattle.meaning.specs.Results.{Answer, provided, and_then}
+use Rattle.meaning.specs.Results.{provided, and_then}
 use Rattle.meaning.specs.Patches.{Prop, Action}
-use Rattle.meaning.specs.Values.{Value, counts, fits}
+use Rattle.meaning.specs.Values.{counts, fits}
 use Rattle.meaning.specs.Application.{at, here}
 use Rattle.packed_rows.specs.Rows.{used}
 use Rattle.node_chains.specs.Tree.{Tree, update, weight}
@@ -24,7 +24,7 @@ use Rattle.value_tree.proofs.Propers.{proper_update}
 use Rattle.value_tree.proofs.Weighing.{counts_is, counts_update}
 use Rattle.value_memory.specs.declared.tables.Tables.{Tables}
 use Rattle.value_memory.specs.Memory.{nodes_in, kids, units_at, tree_of, shown, Sound, Edited, Good}
-use Rattle.value_edits.specs.Acted.{answered, bounded, At, Way, Here, Meant, Acted}
+use Rattle.value_edits.specs.Acted.{At, Way, Here, Meant, Acted}
 use Rattle.value_edits.proofs.Places.{leads, way_of}
 
 -- the three bounds, and one of them passed
@@ -131,6 +131,7 @@ module _ {U : Type 0} {units : List ℕ → List U} {a : Action U} {g : Tree (Da
           kept = λ z. absurd (let y : ◌≡◌ {A = ℕ} 0 1 = cc in omega arith);
         }
 
+module _ {U : Type 0} {units : List ℕ → List U} {a : Action U} {o : ℕ} {m : Tables U} (G : Good m) (A : At m o) where
   -- refused by the action itself
   pub refused : {r : Refusal} {m2 : Tables U} → Good m2 → tree_of m2 ≡ tree_of m → Here m o (Refuses units a r) → Acted units a o m m2 (Err r)
   refused {r} {m2} G2 e R = record {

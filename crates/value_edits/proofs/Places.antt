@@ -1,7 +1,6 @@
 -- The part of the tree at a place.
-use Rattle.std.proofs.Common.{◌≡◌, ℕ, zero, suc, ◌+◌, ◌-◌, ◌<◌, ◌≤◌, List, map, length, get_or, sym, refl, ap, ◌∙◌, arith}
-use Rattle.node_chains.specs.Tree.{Tree, node, forest, trees, tree, Steps, reach, Under}
-use Rattle.node_chains.specs.Chains.{lev_at}
+use Rattle.std.proofs.Common.{◌≡◌, ℕ, suc, ◌-◌, ◌<◌, List, map, length, ap, ◌∙◌, arith}
+use Rattle.node_chains.specs.Tree.{Tree, node, forest, tree, Under}
 use Rattle.node_chains.proofs.Weights.{part, Leads}
 use Rattle.node_table.specs.Held.{Datum, datum}
 use Rattle.node_table.proofs.Inserts.{used_high, used_lev}

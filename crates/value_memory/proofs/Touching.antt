@@ -5,7 +5,7 @@ use Rattle.node_chains.specs.declared.node.Node.{Node}
 use Rattle.node_table.specs.Held.{Datum, Touched, held, raised}
 use Rattle.value_memory.specs.declared.tables.Lent.{Lent}
 use Rattle.value_memory.specs.declared.tables.Tables.{Tables}
-use Rattle.value_memory.specs.Memory.{tables_of, nodes_in, kids, units_at, tree_of, Sound, Edited, Kept}
+use Rattle.value_memory.specs.Memory.{tables_of, nodes_in, kids, units_at, Sound, Edited, Kept}
 
 -- the tables with other nodes
 abbrev pub with_nodes : {U : Type 0} → Tables U → Lent Node → Tables U

@@ -30,7 +30,7 @@ impl<'m, U: Copy> Tables<'m, U> {
         requires position { at ≤ length (kids self.old o) }
         requires room { 0 < length (kids self.old 4097) }
         requires short { (length key.now ≤ 64) × (length string.now ≤ 256) }
-        ensures edited { Edited o (splice_kids at 0 (node (record { key = key.entry.now; content = content; conflict = conflict; string = string.now; units = [] }) none ∷ [])) self.old self.new }
+        ensures edited { Edited o (splice_kids at 0 (node (record { key = key.now; content = content; conflict = conflict; string = string.now; units = [] }) none ∷ [])) self.old self.new }
         ensures stands { Stands (kids self.old) (kids self.new) o }
     {
         insert_lent(

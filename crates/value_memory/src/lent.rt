@@ -36,7 +36,7 @@ pub fn insert_lent<U: Copy>(
     requires position { at ≤ length (kids (tables_of nodes.old starts.old chain.old keys.old strings.old begins.now units.now bytes.old) o) }
     requires room { 0 < length (kids (tables_of nodes.old starts.old chain.old keys.old strings.old begins.now units.now bytes.old) 4097) }
     requires short { (length key.now ≤ 64) × (length string.now ≤ 256) }
-    ensures edited { Edited o (splice_kids at 0 (node (record { key = key.entry.now; content = content; conflict = conflict; string = string.now; units = [] }) none ∷ [])) (tables_of nodes.old starts.old chain.old keys.old strings.old begins.now units.now bytes.old) (tables_of nodes.new starts.new chain.new keys.new strings.new begins.now units.now bytes.new) }
+    ensures edited { Edited o (splice_kids at 0 (node (record { key = key.now; content = content; conflict = conflict; string = string.now; units = [] }) none ∷ [])) (tables_of nodes.old starts.old chain.old keys.old strings.old begins.now units.now bytes.old) (tables_of nodes.new starts.new chain.new keys.new strings.new begins.now units.now bytes.new) }
     ensures stands { Stands (kids (tables_of nodes.old starts.old chain.old keys.old strings.old begins.now units.now bytes.old)) (kids (tables_of nodes.new starts.new chain.new keys.new strings.new begins.now units.now bytes.new)) o }
 {
     insert_child::<U>(

@@ -1,10 +1,10 @@
 -- Proper trees, and what keeps them so.
-use Rattle.std.proofs.Common.{◌≡◌, ℕ, zero, suc, ◌+◌, ◌-◌, ◌<◌, ◌≤◌, Bool, true, false, ◌⊎◌, List, [], ◌∷◌, map, length, get_or, take, ℤ, ◌+ℤ◌, All, Ordering, Less, Equal, Greater, sym, refl, ap, ◌∙◌, inl, inr, ⊎_elim, arith}
+use Rattle.std.proofs.Common.{◌≡◌, ℕ, ◌+◌, ◌-◌, ◌<◌, ◌≤◌, Bool, true, false, ◌⊎◌, List, [], ◌∷◌, map, length, get_or, take, ℤ, ◌+ℤ◌, All, Ordering, Less, Equal, Greater, sym, refl, ap, ◌∙◌, inl, inr, ⊎_elim, arith}
 use mathlib.Core.Path.{path_j'}
-use mathlib.Core.HLevel.{Π_prop, ×_prop}
+use mathlib.Core.HLevel.{×_prop}
 use base.Stored.{Coded, coded_ℕ, coded_list}
-use denote.Struct.Props.{≡_prop, five_prop}
-use Rattle.std.proofs.lemmas.List.Elements.{All-get_or, All-append, All-take, All-drop, All-map, All-from_all_within}
+use denote.Struct.Props.{≡_prop}
+use Rattle.std.proofs.lemmas.List.Elements.{All-nil, All-cons, All-head, All-tail, All-get_or, All-from_get_or, All-append, All-take, All-drop, All-map}
 use Rattle.std.proofs.lemmas.List.{get_or_default}
 use Rattle.std.proofs.lemmas.Bool.{false≢true, cases_lt, cases_eq, cases_order}
 use Rattle.sequence_tree.specs.Lists.{spliced}
@@ -40,15 +40,17 @@ proper_tidy t h = tidy_as t (λ x. x) h
 -- what holds of each element
 module _ {X : Type 0} (P : X → Type 0) where
   all_any : ((x : X) → P x) → (xs : List X) → All P xs
-  all_any h xs = All-from_all_within P xs (λ k d _ _. h (get_or xs k d))
+  all_any h xs k d l = h (get_or xs k d)
 
   all_spliced : (xs : List X) (i n : ℕ) (new : List X) → All P xs → All P new → All P (spliced xs i n new)
   all_spliced xs i n new h k = All-append P (take i xs) _ (All-take P i xs h) (All-append P new _ k (All-drop P (i + n) xs h))
 
   all_change : (xs : List X) (p : ℕ) (g : X → X) (d : X) → p < length xs → P (g (get_or xs p d)) → All P xs → All P (change xs p g)
-  all_change [] p g d l e h = tt
-  all_change (x ∷ xs) zero g d l e h = (e, h.1)
-  all_change (x ∷ xs) (suc p) g d l e h = (h.0, all_change xs p g d (omega arith) e h.1)
+  all_change xs p g d l e h = All-from_get_or P (change xs p g) d (λ q m. at q m (cases_eq q p))
+    where
+      at : (q : ℕ) → q < length (change xs p g) → (q ≡ p) ⊎ (q ≡ p → ⊥) → P (get_or (change xs p g) q d)
+      at q m (inl z) = rw (z, get_or_change xs p g d l) e
+      at q m (inr ne) = rw (get_or_change_other xs p q g d ne) (h q d (omega (arith, length_change xs p g)))
 
 -- each element is below every later one
 module _ {X : Type 0} (R : X → X → Type 0) where
@@ -139,20 +141,20 @@ module _ {U : Type 0} where
   Before a b = compare_keys (top a).key (top b).key ≡ Less
 
   all_proper : (ts : Forest (Datum U)) → AllProper ts (λ x. x) → All Proper (trees ts)
-  all_proper none h = tt
-  all_proper (more t ts) h = (h.0, all_proper ts h.1)
+  all_proper none h = All-nil Proper
+  all_proper (more t ts) h = All-cons Proper t (trees ts) h.0 (all_proper ts h.1)
 
   proper_all : (us : List (Tree (Datum U))) → All Proper us → AllProper (forest us) (λ x. x)
   proper_all [] h = tt
-  proper_all (t ∷ us) h = (h.0, proper_all us h.1)
+  proper_all (t ∷ us) h = (All-head Proper t us h, proper_all us (All-tail Proper t us h))
 
   all_bare : (ts : Forest (Datum U)) → Keyless ts (λ x. x) → All Bare (trees ts)
-  all_bare none h = tt
-  all_bare (more t ts) h = (h.0, all_bare ts h.1)
+  all_bare none h = All-nil Bare
+  all_bare (more t ts) h = All-cons Bare t (trees ts) h.0 (all_bare ts h.1)
 
   bare_all : (us : List (Tree (Datum U))) → All Bare us → Keyless (forest us) (λ x. x)
   bare_all [] h = tt
-  bare_all (t ∷ us) h = (h.0, bare_all us h.1)
+  bare_all (t ∷ us) h = (All-head Bare t us h, bare_all us (All-tail Bare t us h))
 
   -- a tree from its parts, and one without children
   proper_node : (x : Datum U) (us : List (Tree (Datum U))) → Fine x → (branches x.content ≡ false → us ≡ []) → (is_list x.content ≡ true → All Bare us) → (is_map x.content ≡ true → KeysUp x us) → All Proper us
@@ -209,7 +211,7 @@ module _ {U : Type 0} where
       proper_node x (spliced (trees ts) p 0 (placed_tree k e ∷ [])) h.0 (λ b. no_kind branches x.content Map true false c refl b true_false)
       (λ b. no_kind is_list x.content Map false true c refl b false≢true)
       (λ b. rise_put Before (node x none) (placed_tree k e) (trees ts) p g.within (h.3 b) g.above g.below)
-      (all_spliced Proper (trees ts) p 0 (placed_tree k e ∷ []) (all_proper ts h.4) (placed_proper k e, tt))
+      (all_spliced Proper (trees ts) p 0 (placed_tree k e ∷ []) (all_proper ts h.4) (All-cons Proper (placed_tree k e) [] (placed_proper k e) (All-nil Proper)))
 
   pub insert_list : (x : Datum U) (ts : Forest (Datum U)) (i : ℕ) (es : List Entry) → x.content ≡ Sequence → Proper (node x ts) → Proper (splice_kids i 0 (map (placed_tree []) es) (node x ts))
   insert_list x ts i es c h =
@@ -221,9 +223,9 @@ module _ {U : Type 0} where
   pub delete_kids : (x : Datum U) (ts : Forest (Datum U)) (i n : ℕ) → branches x.content ≡ true → Proper (node x ts) → i + n ≤ length (trees ts) → Proper (splice_kids i n [] (node x ts))
   delete_kids x ts i n c h l =
       proper_node x (spliced (trees ts) i n []) h.0 (λ b. absurd (true_false (sym c ∙ b)))
-      (λ b. all_spliced Bare (trees ts) i n [] (all_bare ts (h.2 b)) tt)
+      (λ b. all_spliced Bare (trees ts) i n [] (all_bare ts (h.2 b)) (All-nil Bare))
       (λ b. rise_cut Before (node x none) (trees ts) i n l (h.3 b))
-      (all_spliced Proper (trees ts) i n [] (all_proper ts h.4) tt)
+      (all_spliced Proper (trees ts) i n [] (all_proper ts h.4) (All-nil Proper))
 
   -- an entry changed, of the kind that it was
   proper_relabel : (x y : Datum U) (ts : Forest (Datum U)) → Fine y → branches y.content ≡ branches x.content → is_list y.content ≡ is_list x.content → is_map y.content ≡ is_map x.content
@@ -291,7 +293,12 @@ keys_prop d ts g h k = λ i. λ p q l m. less_prop (compare_keys (g (top (get_or
 mutual
   proper_as_prop : {D U : Type 0} (t : Tree D) (g : D → Datum U) → Coded U → IsProp (ProperAs t g)
   proper_as_prop (node x ts) g c =
-      five_prop (fine_prop c (g x)) (Π_prop (λ _. none_prop ts)) (Π_prop (λ _. keyless_prop ts g)) (Π_prop (λ _. keys_prop x (trees ts) g)) (all_proper_prop ts g c)
+      let fine : IsProp (Fine (g x)) = fine_prop c (g x) in
+      let bare : IsProp (ts ≡ none) = none_prop ts in
+      let keyless : IsProp (Keyless ts g) = keyless_prop ts g in
+      let keys : IsProp (KeysUpAs x (trees ts) g) = keys_prop x (trees ts) g in
+      let rest : IsProp (AllProper ts g) = all_proper_prop ts g c in
+      λ p q i. (fine p.0 q.0 i, λ b. bare (p.1 b) (q.1 b) i, λ b. keyless (p.2 b) (q.2 b) i, λ b. keys (p.3 b) (q.3 b) i, rest p.4 q.4 i)
 
   all_proper_prop : {D U : Type 0} (ts : Forest D) (g : D → Datum U) → Coded U → IsProp (AllProper ts g)
   all_proper_prop none g c = λ p q. refl

@@ -1,6 +1,6 @@
 use Rattle.std.proofs.Common.{sym, ap, ◌∙◌, arith}
 use Rattle.node_chains.specs.Chains.{item_at}
-use Rattle.node_table.specs.Held.{below, item_bytes}
+use Rattle.node_table.specs.Held.{item_bytes}
 use Rattle.node_table.proofs.Inserts.{used_high, used_up, bytes_bound}
 use Rattle.node_table.proofs.Sums.{below_same}
 use Rattle.node_table.proofs.Wipes.{wipe_from, cleared_spelled}

@@ -1,4 +1,4 @@
-use Rattle.std.proofs.Common.{◌≡◌, get_or, ℤ, ◌+ℤ◌, sym, refl, ap, subst, w64, SFits, to_z, of_z, rules}
+use Rattle.std.proofs.Common.{◌≡◌, get_or, ◌+ℤ◌, sym, refl, ap, subst, w64, SFits, to_z, of_z, rules}
 use Rattle.std.proofs.lemmas.Int.{to_z-of_z}
 use Rattle.node_chains.specs.Chains.{blank, item_at}
 use Rattle.node_table.specs.Kinds.{branches, is_text}

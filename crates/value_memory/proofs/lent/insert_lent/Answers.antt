@@ -1,5 +1,4 @@
-use Rattle.std.proofs.Common.{◌≡◌, ◌^◌, ◌<◌, length, ◌∙◌, arith}
-use Rattle.value_memory.specs.Memory.{units_at}
+use Rattle.std.proofs.Common.{◌∙◌, arith}
 use Rattle.value_memory.proofs.lent.insert_lent.Goals as goal
 
 pub insert_child-requires : goal.insert_child-requires

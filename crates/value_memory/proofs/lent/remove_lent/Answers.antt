@@ -1,4 +1,4 @@
-use Rattle.std.proofs.Common.{◌≡◌, ◌∙◌, arith}
+use Rattle.std.proofs.Common.{◌∙◌, arith}
 use Rattle.value_memory.proofs.lent.remove_lent.Goals as goal
 
 pub remove_child-requires : goal.remove_child-requires

@@ -1,4 +1,4 @@
-use Rattle.std.proofs.Common.{◌≡◌, ◌∙◌, arith}
+use Rattle.std.proofs.Common.{◌∙◌, arith}
 use Rattle.value_memory.proofs.lent.replace_lent.Goals as goal
 
 pub replace_content-requires : goal.replace_content-requires

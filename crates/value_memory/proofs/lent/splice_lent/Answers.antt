@@ -1,4 +1,4 @@
-use Rattle.std.proofs.Common.{◌≡◌, ◌∙◌, arith}
+use Rattle.std.proofs.Common.{◌∙◌, arith}
 use Rattle.value_memory.proofs.lent.splice_lent.Goals as goal
 
 pub splice_units-requires : goal.splice_units-requires

@@ -1,4 +1,4 @@
-use Rattle.std.proofs.Common.{Ok, Err, arith, MatchResult}
+use Rattle.std.proofs.Common.{arith}
 use Rattle.node_table.specs.Keys.{key_of, Found, Missing}
 use Rattle.value_memory.specs.Memory.{nodes_in, kids}
 use Rattle.value_memory.proofs.Touching.{on_found}
