@@ -1,16 +1,16 @@
 -- A call's own patch added to those held.
-use Rattle.std.proofs.Common.{◌≡◌, ℕ, suc, ◌+◌, ◌-◌, ◌<◌, ◌≤◌, Bool, true, false, cond, ◌||◌, ltb, List, [], ◌∷◌, ◌++◌, reverse, length, drop, is_ok, Ok, Err, Result, sym, refl, ap, ◌∙◌, arith, length-append}
+use Rattle.std.proofs.Common.{◌≡◌, ℕ, suc, ◌+◌, ◌<◌, ◌≤◌, Bool, true, false, cond, ltb, List, [], ◌∷◌, ◌++◌, reverse, length, drop, Ok, Err, sym, refl, ap, ◌∙◌, arith, length-append}
 use mathlib.Core.Option.{Option, none, some}
-use Rattle.std.proofs.lemmas.List.{reverse-append, length-reverse}
+use Rattle.std.proofs.lemmas.List.{reverse-append}
 use Rattle.std.proofs.lemmas.Bool.{or_parts, ltb-false, lt-ltb, le-ltb}
 use Rattle.types.specs.declared.types.ObjId.{ObjId}
 use Rattle.types.specs.declared.error.Refusal.{Refusal}
 use Rattle.types.specs.declared.error.Refusal.TheVariants.{PathTooDeep, Full}
 use Rattle.patch.specs.declared.rows.StepRow.{StepRow}
 use Rattle.patch.specs.declared.rows.PatchRow.{PatchRow}
-use Rattle.meaning.specs.Results.{Answer, first_of}
+use Rattle.meaning.specs.Results.{first_of}
 use Rattle.meaning.specs.Patches.{Step, Patch}
-use Rattle.meaning.specs.Calls.{Call, own_action}
+use Rattle.meaning.specs.Calls.{Call}
 use Rattle.meaning.specs.Builder.{overfull}
 use Rattle.patch_call.specs.Contents.{call_key, call_data}
 use Rattle.patch_call.specs.Refused.{answer, early, early_tests}

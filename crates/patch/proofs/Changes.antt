@@ -1,19 +1,19 @@
 -- The last row, and what a change of it does to the patches held.
-use Rattle.std.proofs.Common.{◌≡◌, ℕ, ◌+◌, ◌-◌, ◌<◌, ◌≤◌, Bool, true, false, cond, not, List, [], ◌∷◌, ◌++◌, reverse, length, take, drop, Some, None, Option, sym, refl, ap, ◌∙◌, subst, arith, length-drop, take-append-drop}
+use Rattle.std.proofs.Common.{◌≡◌, ℕ, ◌+◌, ◌-◌, ◌<◌, Bool, true, false, cond, not, List, [], ◌∷◌, ◌++◌, reverse, length, take, drop, Some, None, sym, refl, ap, ◌∙◌, arith, length-drop, take-append-drop}
 use Rattle.std.specs.List.{slice_get}
 use Rattle.std.proofs.lemmas.List.{reverse-append, length-reverse, drop_at, drop_all}
-use Rattle.std.proofs.lemmas.Bool.{and_parts, and_from}
+use Rattle.std.proofs.lemmas.Bool.{and_parts}
 use Rattle.sequence_tree.specs.Lists.{spliced}
 use Rattle.patch.specs.declared.rows.ValueRow.{ValueRow}
 use Rattle.patch.specs.declared.rows.ActionRow.{ActionRow}
 use Rattle.patch.specs.declared.rows.ActionRow.TheVariants.{PutMap, PutSeq, Insert, SpliceText, Increment, Conflict, DeleteMap, DeleteSeq}
 use Rattle.patch.specs.declared.rows.PatchRow.{PatchRow}
 use Rattle.meaning.specs.Calls.{bad_length}
-use Rattle.meaning.specs.Patches.{Action, Patch}
+use Rattle.meaning.specs.Patches.{Action}
 use Rattle.patch.specs.Rows.{steps_len, values_in, units_in, wides_in, action_len, action_told}
-use Rattle.patch.specs.Told.{Parts, plus, block, rest, patch_told, told, flags_told, fits_row, laid}
+use Rattle.patch.specs.Told.{Parts, block, rest, patch_told, told, flags_told, fits_row, laid}
 use Rattle.patch.specs.Edits.{change_tail, flag_put, lengthen, length_fits}
-use Rattle.patch.specs.Tails.{TailIs, flag_row, lengthen_row, fits_length, with_action}
+use Rattle.patch.specs.Tails.{flag_row, lengthen_row, fits_length, with_action}
 use Rattle.patch.proofs.Tell.{Fits, fits_parts, both_parts, told_added, flags_added, laid_added}
 use Rattle.patch.proofs.Walks.{nth_none, nth_some}
 

@@ -1,5 +1,5 @@
 -- Patches that keep their bounds.
-use Rattle.std.proofs.Common.{◌≡◌, ℕ, ◌≤◌, Bool, true, false, cond, not, ◌&&◌, eqb, leb, List, [], ◌∷◌, ◌++◌, reverse, length, take, drop, Ok, Err, sym, refl, ap, ◌∙◌, arith, length-take}
+use Rattle.std.proofs.Common.{◌≡◌, ℕ, ◌≤◌, Bool, true, false, cond, not, ◌&&◌, eqb, leb, List, [], ◌∷◌, ◌++◌, reverse, length, take, drop, Ok, refl, ap, ◌∙◌, arith, length-take}
 use mathlib.Core.Option.{Option, none, some}
 use Rattle.std.proofs.lemmas.List.{reverse-append}
 use Rattle.std.proofs.lemmas.Bool.{and_parts, and_from, or_parts, not-false, not_from_false, eqb-true, leb-true, le-leb, le-ltb}
@@ -11,7 +11,7 @@ use Rattle.patch.specs.declared.rows.StepRow.{StepRow}
 use Rattle.meaning.specs.Results.{first_of}
 use Rattle.meaning.specs.Lists.{Every}
 use Rattle.meaning.specs.Entries.{Entry}
-use Rattle.meaning.specs.Patches.{Prop, key, pos, Action, put_map, put_seq, insert, splice_text, increment, conflict, delete_map, delete_seq, Patch}
+use Rattle.meaning.specs.Patches.{key, pos, Action, put_map, put_seq, insert, splice_text, increment, conflict, delete_map, delete_seq, Patch}
 use Rattle.meaning.specs.Documents.{well_spelt}
 use Rattle.meaning.specs.Calls.{Call, put_call, insert_call, delete_seq_call, delete_map_call, increment_call, flag_call, splice_call, own_action, long_prop, long_entry, too_long, bad_encoding}
 use Rattle.patch_call.specs.Refused.{answer, early_tests, early}
@@ -19,7 +19,7 @@ use Rattle.patch.specs.Rows.{prop_len, prop_told, steps_len, steps_told}
 use Rattle.patch.specs.Paths.{short_rows, whole_path}
 use Rattle.patch.specs.Made.{with_own}
 use Rattle.patch.specs.Edits.{change_tail, flag_put, lengthen, add_units}
-use Rattle.patch.specs.Fine.{short_steps, fine_entry, fine_entries, fine_action, fine_patch, all_fine}
+use Rattle.patch.specs.Fine.{short_steps, fine_entry, fine_action, fine_patch, all_fine}
 use Rattle.patch.proofs.Adding.{steps_count}
 
 module _ {U : Type 0} where

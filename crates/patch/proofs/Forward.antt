@@ -1,11 +1,10 @@
 -- Reading from the front and from the end.
-use Rattle.std.proofs.Common.{◌≡◌, ℕ, ◌+◌, ◌-◌, ◌<◌, ◌≤◌, Bool, true, false, ◌&&◌, eqb, leb, List, [], ◌∷◌, ◌++◌, reverse, length, take, drop, sym, refl, ap, ◌∙◌, subst, arith, length-append}
+use Rattle.std.proofs.Common.{◌≡◌, ◌≤◌, true, eqb, List, [], ◌∷◌, ◌++◌, reverse, length, sym, refl, ap, ◌∙◌, subst, arith, length-append}
 use Rattle.std.proofs.lemmas.List.{take-append-le, drop-append-le, take_all, drop_all, nil_from_length, reverse-append}
 use Rattle.std.proofs.lemmas.Bool.{and_parts, eqb-true}
 use Rattle.patch.specs.declared.rows.PatchRow.{PatchRow}
-use Rattle.meaning.specs.Patches.{Patch}
 use Rattle.patch.specs.Rows.{values_in, units_in}
-use Rattle.patch.specs.Told.{Parts, plus, block, rest, ahead, after, patch_told, told, told_forward, fits_row, bare, laid, BothWays}
+use Rattle.patch.specs.Told.{Parts, plus, block, rest, ahead, after, patch_told, told, told_forward, fits_row, laid, BothWays}
 use Rattle.patch.proofs.Tell.{Fits, fits_parts, both_parts}
 
 module _ {U : Type 0} where

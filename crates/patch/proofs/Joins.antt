@@ -1,17 +1,15 @@
 -- More units for the last patch.
-use Rattle.std.proofs.Common.{◌≡◌, ℕ, ◌+◌, ◌-◌, ◌<◌, ◌≤◌, min, Bool, true, false, cond, not, ◌||◌, ltb, ◌⊎◌, List, [], ◌∷◌, ◌++◌, reverse, length, take, drop, sym, refl, ap, ◌∙◌, inl, inr, append_assoc, arith, length-append, length-drop, take-append-drop, length-take}
+use Rattle.std.proofs.Common.{◌≡◌, ℕ, ◌+◌, ◌-◌, ◌<◌, ◌≤◌, min, Bool, true, false, ◌||◌, ltb, ◌⊎◌, List, ◌∷◌, ◌++◌, length, take, drop, sym, refl, ap, ◌∙◌, inl, inr, append_assoc, arith, length-append, length-drop, length-take}
 use lib.Seq.{drop-append-add, take-append-add}
-use Rattle.std.proofs.lemmas.List.{length-take-le, length-reverse, take_all, drop_all}
+use Rattle.std.proofs.lemmas.List.{length-take-le, take_all, drop_all}
 use Rattle.std.proofs.lemmas.Bool.{cases_lt, le-ltb}
 use Rattle.sequence_tree.specs.Lists.{spliced}
 use Rattle.patch.specs.declared.rows.ActionRow.{ActionRow}
 use Rattle.patch.specs.declared.rows.ActionRow.TheVariants.{PutMap, PutSeq, Insert, SpliceText, Increment, Conflict, DeleteMap, DeleteSeq}
-use Rattle.patch.specs.declared.rows.ValueRow.{ValueRow}
 use Rattle.patch.specs.declared.rows.PatchRow.{PatchRow}
 use Rattle.meaning.specs.Lists.{splice}
-use Rattle.meaning.specs.Patches.{Action, Patch}
 use Rattle.meaning.specs.Builder.{overfull}
-use Rattle.patch.specs.Rows.{steps_len, wides, values_in, units_in, wides_in, action_len, action_told}
+use Rattle.patch.specs.Rows.{steps_len, values_in, units_in, wides_in, action_len, action_told}
 use Rattle.patch.specs.Told.{Parts, last, front, plus, block, rest, patch_told, told, flags_told, laid, passes}
 use Rattle.patch.specs.Edits.{change_tail, add_units}
 use Rattle.patch.specs.Tails.{with_action}

@@ -1,18 +1,16 @@
 -- The row of a call tells the call's own patch.
-use Rattle.std.proofs.Common.{◌≡◌, ℕ, ◌+◌, ◌-◌, ◌<◌, ◌≤◌, Bool, true, false, cond, List, [], ◌∷◌, ◌++◌, length, take, drop, sym, refl, ap, ◌∙◌, arith, length-append, length-drop}
+use Rattle.std.proofs.Common.{◌≡◌, ℕ, ◌+◌, ◌≤◌, Bool, false, List, [], ◌∷◌, ◌++◌, length, drop, sym, refl, ap, ◌∙◌, arith, length-append, length-drop}
 use Rattle.std.proofs.lemmas.List.{take-append-le, drop-append-le, take_at, drop_at, take_all}
 use Rattle.types.specs.declared.types.ObjId.{ObjId}
 use Rattle.patch.specs.declared.rows.PropRow.{PropRow}
 use Rattle.patch.specs.declared.rows.PropRow.TheVariants.{Key, Index}
 use Rattle.patch.specs.declared.rows.StepRow.{StepRow}
-use Rattle.patch.specs.declared.rows.ValueRow.{ValueRow}
-use Rattle.patch.specs.declared.rows.PatchRow.{PatchRow}
 use Rattle.meaning.specs.Entries.{Scalar, null, boolean, int, uint, timestamp, counter, str, bytes, Content, scalar_of, object_of, Entry}
-use Rattle.meaning.specs.Patches.{Prop, key, pos, Step, Action, put_map, put_seq, insert, splice_text, increment, conflict, delete_map, delete_seq, Patch}
+use Rattle.meaning.specs.Patches.{Prop, key, pos, put_map, put_seq, insert, increment, conflict, delete_map}
 use Rattle.meaning.specs.Calls.{Call, put_call, insert_call, delete_seq_call, delete_map_call, increment_call, flag_call, splice_call, own_action}
 use Rattle.patch_call.specs.Contents.{prop_key, scalar_data, content_data, call_key, call_data}
-use Rattle.patch.specs.Rows.{prop_len, prop_told, steps_len, steps_told, scalar_len, scalar_told, content_len, content_told, entry_told, values_len, wides, values_in, units_in, wides_in, action_len, action_told}
-use Rattle.patch.specs.Told.{Parts, patch_told}
+use Rattle.patch.specs.Rows.{prop_len, prop_told, steps_len, steps_told, scalar_len, scalar_told, content_len, content_told, entry_told, wides, values_in, units_in, wides_in, action_len, action_told}
+use Rattle.patch.specs.Told.{patch_told}
 use Rattle.patch.specs.Made.{prop_row, scalar_row, content_row, value_row, action_row, call_values, call_units, row_made, parts_made}
 use Rattle.patch.proofs.Tell.{Fits}
 

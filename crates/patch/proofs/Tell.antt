@@ -1,6 +1,6 @@
 -- Rows with what is their own, at the end of what there is.
-use Rattle.std.proofs.Common.{◌≡◌, ℕ, suc, ◌+◌, ◌-◌, ◌*◌, ◌<◌, ◌≤◌, Bool, true, false, ◌&&◌, ◌||◌, eqb, ltb, leb, List, [], ◌∷◌, ◌++◌, reverse, length, take, drop, sym, refl, ap, ◌∙◌, arith, length-append, length-drop}
-use Rattle.std.proofs.lemmas.List.{take-append-le, drop-append-le, drop_at, take_all, length-take-le}
+use Rattle.std.proofs.Common.{◌≡◌, ℕ, suc, ◌+◌, ◌-◌, ◌*◌, ◌≤◌, true, List, [], ◌∷◌, length, take, drop, sym, refl, ap, ◌∙◌, arith, length-append, length-drop}
+use Rattle.std.proofs.lemmas.List.{length-take-le}
 use Rattle.std.proofs.lemmas.Bool.{and_parts, and_from, eqb-true, eq-eqb, leb-true, le-leb}
 use Rattle.patch.specs.declared.rows.PropRow.{PropRow}
 use Rattle.patch.specs.declared.rows.PropRow.TheVariants.{Key, Index}
@@ -13,11 +13,10 @@ use Rattle.patch.specs.declared.rows.ValueRow.{ValueRow}
 use Rattle.patch.specs.declared.rows.ActionRow.{ActionRow}
 use Rattle.patch.specs.declared.rows.ActionRow.TheVariants.{PutMap, PutSeq, Insert, SpliceText, Increment, Conflict, DeleteMap, DeleteSeq}
 use Rattle.patch.specs.declared.rows.PatchRow.{PatchRow}
-use Rattle.meaning.specs.Entries.{bytes_of_scalar, content_bytes, Entry}
-use Rattle.meaning.specs.Patches.{Patch}
-use Rattle.meaning.specs.Builder.{prop_bytes, bytes_of_path, entries_bytes, action_values, action_units, action_bytes, Load, load, overfull}
-use Rattle.patch.specs.Rows.{prop_len, prop_told, steps_len, steps_told, scalar_len, scalar_told, content_len, content_told, entry_told, values_len, entries_told, wides, values_in, units_in, wides_in, action_len, action_told}
-use Rattle.patch.specs.Told.{Parts, last, front, plus, block, rest, patch_told, told, wide_flags, flags_told, fits_row, bare, laid, passes}
+use Rattle.meaning.specs.Entries.{bytes_of_scalar, content_bytes}
+use Rattle.meaning.specs.Builder.{prop_bytes, bytes_of_path, entries_bytes, action_values, action_units, action_bytes, load, overfull}
+use Rattle.patch.specs.Rows.{prop_len, prop_told, steps_len, steps_told, scalar_len, scalar_told, content_len, content_told, values_len, entries_told, wides, values_in, units_in, wides_in, action_len, action_told}
+use Rattle.patch.specs.Told.{Parts, plus, block, rest, patch_told, told, wide_flags, flags_told, fits_row, bare, laid, passes}
 use Rattle.patch.proofs.Tails.{last_append, front_append, front_last}
 
 -- keys and strings are within what there is
@@ -162,10 +161,10 @@ module _ {U : Type 0} where
       let d = sym (eqb-true _ _ s.1) in
       λ i. record { patch_count = 0; value_count = a i; text_units = b i; byte_count = d i }
 
-  pub load_told : (rs : List PatchRow) (c : Parts U) → laid rs c ≡ true
+  pub load_told_lem : (rs : List PatchRow) (c : Parts U) → laid rs c ≡ true
       → load (told rs c) ≡ record { patch_count = length rs; value_count = length c.values; text_units = length c.units; byte_count = length c.bytes }
-  load_told [] c h = bare_load c h
-  load_told (r ∷ rs) c h = go (load_told rs (rest r c) l.1)
+  load_told_lem [] c h = bare_load c h
+  load_told_lem (r ∷ rs) c h = go (load_told_lem rs (rest r c) l.1)
     where
       l : (fits_row r (block r c) ≡ true) × (laid rs (rest r c) ≡ true)
       l = and_parts (fits_row r (block r c)) (laid rs (rest r c)) h
@@ -218,7 +217,7 @@ module _ {U : Type 0} where
   -- and so are the counts that are bounded
   pub overfull_told : (rs : List PatchRow) (c : Parts U) → laid rs c ≡ true
       → overfull (told rs c) ≡ passes (length rs) (length c.values) (length c.units) (length c.bytes)
-  overfull_told rs c h = ap (λ q. passes q.patch_count q.value_count q.text_units q.byte_count) (load_told rs c h)
+  overfull_told rs c h = ap (λ q. passes q.patch_count q.value_count q.text_units q.byte_count) (load_told_lem rs c h)
 
   -- the places for steps suffice
   pub steps_few : (rs : List PatchRow) (c : Parts U) → laid rs c ≡ true → length c.steps ≤ 16 * length rs

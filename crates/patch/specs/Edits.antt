@@ -1,5 +1,5 @@
 -- Changes of the last patch.
-use Rattle.std.specs.Prelude.{ℕ, ◌+◌, Bool, true, false, not, List, [], ◌∷◌}
+use Rattle.std.specs.Prelude.{ℕ, ◌+◌, Bool, true, not, List, [], ◌∷◌}
 use Rattle.meaning.specs.Lists.{splice}
 use Rattle.meaning.specs.Patches.{Action, put_map, put_seq, insert, splice_text, increment, conflict, delete_map, delete_seq, Patch}
 use Rattle.meaning.specs.Calls.{bad_length}

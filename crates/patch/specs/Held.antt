@@ -1,9 +1,6 @@
 -- What the memory of patches holds.
 use Rattle.std.specs.Prelude.{ℕ, Bool, ◌&&◌, List, nat_le}
-use Rattle.std.proofs.Math.Option.{Option, none, some}
 use Rattle.types.specs.Limits.{limits}
-use Rattle.types.specs.declared.error.Refusal.{Refusal}
-use Rattle.types.specs.declared.error.Refusal.TheVariants.{PathTooDeep, Full}
 use Rattle.patch.specs.declared.memory.PatchMemory.{PatchMemory}
 use Rattle.meaning.specs.Patches.{Patch}
 use Rattle.patch.specs.Told.{Parts, told, flags_told}

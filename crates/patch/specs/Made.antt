@@ -1,5 +1,5 @@
 -- The row of a call and what is its own.
-use Rattle.std.specs.Prelude.{ℕ, ◌+◌, Bool, true, false, cond, List, [], ◌∷◌, ◌++◌, length}
+use Rattle.std.specs.Prelude.{ℕ, ◌+◌, Bool, false, cond, List, [], ◌∷◌, ◌++◌, length}
 use Rattle.std.proofs.Math.Option.{Option, some}
 use Rattle.types.specs.declared.types.ObjId.{ObjId}
 use Rattle.types.specs.declared.error.Refusal.{Refusal}

@@ -1,4 +1,4 @@
--- Paths that may be appended: each key is short, and the keys' bytes are all there.
+-- Steps whose keys are each short, with the bytes of the keys all there.
 use Rattle.std.specs.Prelude.{ℕ, Bool, true, ◌&&◌, List, [], ◌∷◌, length, ◌==◌, nat_le}
 use Rattle.types.specs.Limits.{limits}
 use Rattle.patch.specs.declared.rows.StepRow.{StepRow}

@@ -1,5 +1,5 @@
 -- What one row says, with the steps, values, units and bytes that are its own.
-use Rattle.std.specs.Prelude.{ℕ, ◌+◌, Bool, true, false, cond, List, [], ◌∷◌, length, take, drop}
+use Rattle.std.specs.Prelude.{ℕ, ◌+◌, cond, List, [], ◌∷◌, take, drop}
 use Rattle.patch.specs.declared.rows.PropRow.{PropRow}
 use Rattle.patch.specs.declared.rows.PropRow.TheVariants.{Key, Index}
 use Rattle.patch.specs.declared.rows.StepRow.{StepRow}
@@ -10,9 +10,8 @@ use Rattle.patch.specs.declared.rows.ContentRow.TheVariants.{Object, Scalar as P
 use Rattle.patch.specs.declared.rows.ValueRow.{ValueRow}
 use Rattle.patch.specs.declared.rows.ActionRow.{ActionRow}
 use Rattle.patch.specs.declared.rows.ActionRow.TheVariants.{PutMap, PutSeq, Insert, SpliceText, Increment, Conflict, DeleteMap, DeleteSeq}
-use Rattle.patch.specs.declared.rows.PatchRow.{PatchRow}
 use Rattle.meaning.specs.Entries.{Scalar, null, boolean, int, uint, timestamp, counter, str, bytes, Content, scalar_of, object_of, Entry}
-use Rattle.meaning.specs.Patches.{Prop, key, pos, Step, Action, put_map, put_seq, insert, splice_text, increment, conflict, delete_map, delete_seq, Patch}
+use Rattle.meaning.specs.Patches.{Prop, key, pos, Step, Action, put_map, put_seq, insert, splice_text, increment, conflict, delete_map, delete_seq}
 
 -- How many bytes a key has; a position has none.
 abbrev pub prop_len : PropRow → ℕ

@@ -1,12 +1,12 @@
 -- When the memory of patches is in order.
-use Rattle.std.specs.Prelude.{◌≡◌, ℕ, ◌≤◌, Bool, true, List, reverse, length}
+use Rattle.std.specs.Prelude.{ℕ, ◌≤◌, List, reverse, length}
 use Rattle.sequence_tree.specs.declared.raw.Raw.{Raw}
 use Rattle.sequence_tree.specs.Places.{Fits, items, room}
 use Rattle.types.specs.Limits.{limits}
 use Rattle.patch.specs.declared.rows.StepRow.{StepRow}
 use Rattle.patch.specs.declared.rows.ValueRow.{ValueRow}
 use Rattle.patch.specs.declared.rows.PatchRow.{PatchRow}
-use Rattle.patch.specs.Told.{Parts, laid}
+use Rattle.patch.specs.Told.{Parts}
 
 -- The rows, newest first.
 abbrev pub newest : Raw PatchRow → List PatchRow

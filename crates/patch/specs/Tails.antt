@@ -1,13 +1,12 @@
 -- Rows of the last patch.
-use Rattle.std.specs.Prelude.{◌≡◌, ℕ, ◌+◌, Bool, true, false, cond, List, [], ◌∷◌, drop, Some, None, Option}
+use Rattle.std.specs.Prelude.{◌≡◌, ℕ, ◌+◌, true, cond, List, [], ◌∷◌, drop, Some, None, Option}
 use Rattle.patch.specs.declared.rows.ValueRow.{ValueRow}
 use Rattle.patch.specs.declared.rows.ActionRow.{ActionRow}
 use Rattle.patch.specs.declared.rows.ActionRow.TheVariants.{PutMap, PutSeq, Insert, SpliceText, Increment, Conflict, DeleteMap, DeleteSeq}
 use Rattle.patch.specs.declared.rows.PatchRow.{PatchRow}
 use Rattle.patch.specs.declared.memory.PatchMemory.{PatchMemory}
-use Rattle.meaning.specs.Patches.{Patch}
 use Rattle.meaning.specs.Calls.{bad_length}
-use Rattle.patch.specs.Told.{Parts, block, rest, patch_told, told, fits_row}
+use Rattle.patch.specs.Told.{block, rest, patch_told, told, fits_row}
 use Rattle.patch.specs.Sound.{newest}
 use Rattle.patch.specs.Held.{parts_of, held_of}
 

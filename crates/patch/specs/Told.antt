@@ -1,5 +1,5 @@
 -- Rows and their content read back as patches: from the end, and from the front.
-use Rattle.std.specs.Prelude.{◌≡◌, ℕ, ◌+◌, ◌-◌, Bool, true, false, ◌&&◌, ◌||◌, List, [], ◌∷◌, ◌++◌, reverse, length, take, drop, ◌==◌, nat_le, nat_lt}
+use Rattle.std.specs.Prelude.{◌≡◌, ℕ, ◌+◌, ◌-◌, Bool, true, ◌&&◌, ◌||◌, List, [], ◌∷◌, ◌++◌, reverse, length, take, drop, ◌==◌, nat_le, nat_lt}
 use Rattle.types.specs.Limits.{limits}
 use Rattle.patch.specs.declared.rows.StepRow.{StepRow}
 use Rattle.patch.specs.declared.rows.ValueRow.{ValueRow}

@@ -1,11 +1,11 @@
 -- Reading patches one after the other.
-use Rattle.std.specs.Prelude.{◌≡◌, ℕ, List, [], ◌∷◌, drop, Some, None, Option}
+use Rattle.std.specs.Prelude.{◌≡◌, List, [], ◌∷◌, drop, Some, None, Option}
 use Rattle.sequence_tree.specs.Places.{items}
 use Rattle.patch.specs.declared.view.PatchView.{PatchView}
 use Rattle.patch.specs.declared.view.Cursor.{Cursor}
 use Rattle.patch.specs.declared.memory.PatchMemory.{PatchMemory}
 use Rattle.meaning.specs.Patches.{Patch}
-use Rattle.patch.specs.Told.{Parts, patch_told, told_forward}
+use Rattle.patch.specs.Told.{patch_told, told_forward}
 
 module _ {U : Type 0} where
   -- The patch that is lent.

@@ -1,6 +1,5 @@
 ghost use Rattle.std.specs.Prelude.{◌≡◌, true};
-ghost use Rattle.patch.specs.Told.{told, laid};
-ghost use Rattle.patch.specs.Fine.{all_fine};
+ghost use Rattle.patch.specs.Told.{laid};
 ghost use Rattle.patch.specs.Sound.{newest, parts_in, Placed, Roomy, Within};
 
 use crate::rows::{PatchRow, StepRow, ValueRow};
@@ -26,5 +25,4 @@ pub struct PatchMemory<'m, U> {
     ghost roomy: { Roomy rows steps values units bytes },
     ghost few: { Within rows values units bytes },
     ghost shared: { laid (newest rows) (parts_in steps values units bytes) ≡ true },
-    ghost fine: { all_fine (told (newest rows) (parts_in steps values units bytes)) ≡ true },
 }

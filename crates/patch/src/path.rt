@@ -1,18 +1,9 @@
-ghost use Rattle.std.specs.Prelude.{◌≡◌, true};
+ghost use Rattle.std.specs.Prelude.{◌≡◌};
 ghost use Rattle.patch.specs.Rows.{prop_len};
 ghost use Rattle.patch.specs.Paths.{whole_path};
 
 use crate::rows::{PropRow, StepRow};
 use types::bounds::KEY_BYTES;
-
-// A path from the root, with the bytes of its keys in a row: these are all
-// there, and no key is too long.
-#[derive(Clone, Copy)]
-pub struct Path<'a> {
-    pub steps: &'a [StepRow],
-    pub keys: &'a [u8],
-    ghost whole: { whole_path steps.now keys.now ≡ true },
-}
 
 // The bytes of a key; a position has none.
 fn prop_len(p: PropRow) -> usize

@@ -68,3 +68,10 @@ pub struct PatchRow {
     pub bytes: usize,
     pub action: ActionRow,
 }
+
+// A path from the root, with the bytes of its keys in a row.
+#[derive(Clone, Copy)]
+pub struct Path<'a> {
+    pub steps: &'a [StepRow],
+    pub keys: &'a [u8],
+}

@@ -1,10 +1,9 @@
 ghost use Rattle.std.specs.Prelude.{◌≡◌, ℕ, ◌+◌, ◌≤◌, Bool, List, [], ◌∷◌, ◌++◌, length, is_some, IfSome, is_ok, if◌then◌else◌, nat_lt};
-ghost use Rattle.std.proofs.Math.Option.{none};
 ghost use Rattle.sequence_tree.specs.Places.{items};
 ghost use Rattle.patch_call.specs.Seen.{call_seen};
-ghost use Rattle.patch_call.specs.Refused.{answer, early};
+ghost use Rattle.patch_call.specs.Refused.{answer};
 ghost use Rattle.patch_call.specs.Contents.{call_key, call_data};
-ghost use Rattle.patch.specs.Rows.{steps_told};
+ghost use Rattle.patch.specs.Rows.{steps_len, steps_told};
 ghost use Rattle.patch.specs.Told.{passes, wide_flags};
 ghost use Rattle.patch.specs.Made.{call_values, call_units, with_own, appending, late};
 ghost use Rattle.patch.specs.Held.{held_of, flags_of, enough};
@@ -12,8 +11,7 @@ ghost use Rattle.patch.specs.Held.{held_of, flags_of, enough};
 use super::PatchMemory;
 use crate::ends::extend;
 use crate::making::{action_row, add_value, own_units, value_count};
-use crate::path::Path;
-use crate::rows::{PatchRow, StepRow, ValueRow};
+use crate::rows::{PatchRow, Path, StepRow, ValueRow};
 use patch_call::call::Call;
 use patch_call::check_call;
 use sequence_tree::raw::Raw;
@@ -111,7 +109,7 @@ impl<'m, U: Copy> PatchMemory<'m, U> {
         units: &[U],
         wide: bool,
     ) -> Result<(), Refusal>
-        requires { early obj (call_seen call) ≡ none }
+        requires { steps_len path.steps.now ≡ length path.keys.now }
         ensures answer { result ≡ answer (late obj (steps_told path.entry.steps.now path.entry.keys.now) (call_seen call.entry) units.now (held_of self.old)) }
         ensures held { held_of self.new ≡ (if is_ok result then with_own obj (steps_told path.entry.steps.now path.entry.keys.now) (call_seen call.entry) units.now (held_of self.old) else held_of self.old) }
         ensures wide { flags_of self.new ≡ (if is_ok result then wide_flags (call_values (call_seen call.entry) wide) ∷ flags_of self.old else flags_of self.old) }
@@ -150,6 +148,7 @@ impl<'m, U: Copy> PatchMemory<'m, U> {
         units: &[U],
         wide: bool,
     ) -> Result<(), Refusal>
+        requires { steps_len path.steps.now ≡ length path.keys.now }
         ensures answer { result ≡ answer (appending obj (steps_told path.entry.steps.now path.entry.keys.now) (call_seen call.entry) units.now (held_of self.old)) }
         ensures held { held_of self.new ≡ (if is_ok result then with_own obj (steps_told path.entry.steps.now path.entry.keys.now) (call_seen call.entry) units.now (held_of self.old) else held_of self.old) }
         ensures wide { flags_of self.new ≡ (if is_ok result then wide_flags (call_values (call_seen call.entry) wide) ∷ flags_of self.old else flags_of self.old) }

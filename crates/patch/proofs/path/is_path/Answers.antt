@@ -1,4 +1,4 @@
-use Rattle.std.proofs.Common.{◌≡◌, sym, ◌∙◌}
+use Rattle.std.proofs.Common.{sym, ◌∙◌}
 use Rattle.patch.specs.declared.rows.PropRow.TheVariants.{Key}
 use Rattle.patch.specs.declared.rows.StepRow.{StepRow}
 use Rattle.patch.proofs.Paths.{rows_refused, rows_next, rows_end}

@@ -1,16 +1,14 @@
-use Rattle.std.proofs.Common.{◌≡◌, ◌+◌, ◌≤◌, true, false, cond, List, [], ◌∷◌, ◌++◌, reverse, length, sym, refl, ap, ◌∙◌, append_assoc, arith, length-append}
+use Rattle.std.proofs.Common.{◌≡◌, ◌+◌, true, false, [], ◌∷◌, ◌++◌, reverse, length, sym, refl, ap, ◌∙◌, append_assoc, arith, length-append}
 use Rattle.std.proofs.lemmas.List.{length-reverse}
-use Rattle.sequence_tree.specs.Places.{items, room}
+use Rattle.sequence_tree.specs.Places.{items}
 use Rattle.patch.specs.declared.rows.PatchRow.{PatchRow}
 use Rattle.patch_call.specs.Seen.{call_seen}
 use Rattle.patch_call.specs.Contents.{call_key, call_data}
-use Rattle.patch.specs.Told.{Parts, plus, told, laid}
-use Rattle.patch.specs.Made.{action_row, call_values, call_units, row_made, parts_made}
+use Rattle.patch.specs.Told.{Parts, plus}
+use Rattle.patch.specs.Made.{call_values, call_units, row_made, parts_made}
 use Rattle.patch.specs.Sound.{newest, parts_in}
 use Rattle.patch.specs.Held.{parts_of, held_of}
-use Rattle.patch.specs.Fine.{all_fine}
 use Rattle.patch.proofs.Tell.{steps_few}
-use Rattle.patch.proofs.Fine.{whole_parts, fine_own}
 use Rattle.patch.proofs.Adding.{not_full, newest_more, laid_stored, told_stored, flags_stored, over_own, late_deep, late_full}
 use Rattle.patch.proofs.memory.PatchMemory.add.Goals as goal
 
@@ -27,7 +25,7 @@ pub returns-then-is_full : goal.returns-then-is_full
 returns-then-is_full g c =
     let a = c.args in
     let m = c.args.self.now in
-    let o = over_own a.obj a.path.steps.now a.path.keys.now (call_seen a.call) a.units.now a.wide (whole_parts a.path.steps.now a.path.keys.now a.path.whole).1 c.if-path-gt-PATH_STEPS.false (newest m.rows) (parts_of m) m.shared (length (items m.rows)) (length-reverse (items m.rows)) in
+    let o = over_own a.obj a.path.steps.now a.path.keys.now (call_seen a.call) a.units.now a.wide c.requires c.if-path-gt-PATH_STEPS.false (newest m.rows) (parts_of m) m.shared (length (items m.rows)) (length-reverse (items m.rows)) in
     record {
       answer = sym (late_full a.obj a.path.steps.now a.path.keys.now (call_seen a.call) a.units.now (held_of m) c.if-path-gt-PATH_STEPS.false true (o ∙ (sym (c.is_full.ensures a.wide) ∙ c.if-is_full.true)));
       held = refl;
@@ -109,23 +107,13 @@ invariant_of-self g c =
     let nR = ap length c.extend-6.ensures.items ∙ length-append (items m.rows) (row ∷ []) in
     let nV = ap length c.add_value.ensures.items ∙ length-append (items m.values) (call_values k a.wide) in
     let nU = ap length eU ∙ length-append (items m.units) (call_units k a.units.now) in
-    let nB = ap length eB ∙ (length-append (items m.bytes) (a.path.keys.now ++ (call_key k ++ call_data k)) ∙ ap (λ n. length (items m.bytes) + n) (length-append a.path.keys.now (call_key k ++ call_data k) ∙ ap (λ n. length a.path.keys.now + n) (length-append (call_key k) (call_data k)))) in (
-      (c.extend-6.ensures.fits, c.extend.ensures.fits, c.add_value.ensures.fits, c.extend-5.ensures.fits, c.extend-4.ensures.fits),
-      (
-        (omega (arith, m.roomy.0, c.extend-6.ensures.room), omega (arith, m.roomy.1, c.extend.ensures.room), omega (arith, m.roomy.2, c.add_value.ensures.room), omega (arith, m.roomy.3, c.extend-5.ensures.room), omega (arith, m.roomy.4, c.extend-2.ensures.room, c.extend-3.ensures.room, c.extend-4.ensures.room)),
-        (
-          (omega (arith, f.0, nR), omega (arith, f.1, nV), omega (arith, f.2, nU), omega (arith, f.3, nB)),
-          (
-            laid_stored a.obj a.path.steps.now a.path.keys.now k a.units.now a.wide (whole_parts a.path.steps.now a.path.keys.now a.path.whole).1 c.if-path-gt-PATH_STEPS.false (newest m.rows) (parts_of m) m.shared (newest c.extend-6.new.s) P eR eP,
-            (
-              ap all_fine (told_stored a.obj a.path.steps.now a.path.keys.now k a.units.now a.wide (whole_parts a.path.steps.now a.path.keys.now a.path.whole).1 c.if-path-gt-PATH_STEPS.false (newest m.rows) (parts_of m) m.shared (newest c.extend-6.new.s) P eR eP)
-                  ∙ fine_own a.obj a.path.steps.now a.path.keys.now k a.units.now (held_of m) a.path.whole c.if-path-gt-PATH_STEPS.false c.requires m.fine,
-              tt,
-            ),
-          ),
-        ),
-      ),
-    )
+    let nB = ap length eB ∙ (length-append (items m.bytes) (a.path.keys.now ++ (call_key k ++ call_data k)) ∙ ap (λ n. length (items m.bytes) + n) (length-append a.path.keys.now (call_key k ++ call_data k) ∙ ap (λ n. length a.path.keys.now + n) (length-append (call_key k) (call_data k)))) in
+    record {
+      placed = (c.extend-6.ensures.fits, c.extend.ensures.fits, c.add_value.ensures.fits, c.extend-5.ensures.fits, c.extend-4.ensures.fits);
+      roomy = (omega (arith, m.roomy.0, c.extend-6.ensures.room), omega (arith, m.roomy.1, c.extend.ensures.room), omega (arith, m.roomy.2, c.add_value.ensures.room), omega (arith, m.roomy.3, c.extend-5.ensures.room), omega (arith, m.roomy.4, c.extend-2.ensures.room, c.extend-3.ensures.room, c.extend-4.ensures.room));
+      few = (omega (arith, f.0, nR), omega (arith, f.1, nV), omega (arith, f.2, nU), omega (arith, f.3, nB));
+      shared = laid_stored a.obj a.path.steps.now a.path.keys.now k a.units.now a.wide c.requires c.if-path-gt-PATH_STEPS.false (newest m.rows) (parts_of m) m.shared (newest c.extend-6.new.s) P eR eP;
+    }
 
 pub returns : goal.returns
 returns g c =
@@ -147,9 +135,9 @@ returns g c =
     let P : Parts g.row.U.Denot = parts_in c.extend.new.s c.add_value.new.values c.extend-5.new.s c.extend-4.new.s in
     let eP : P ≡ plus (parts_of m) (parts_made a.path.steps.now a.path.keys.now k a.units.now a.wide) =
     λ i. record { steps = c.extend.ensures.items i; values = c.add_value.ensures.items i; units = eU i; bytes = eB i } in
-    let o = over_own a.obj a.path.steps.now a.path.keys.now k a.units.now a.wide (whole_parts a.path.steps.now a.path.keys.now a.path.whole).1 c.if-path-gt-PATH_STEPS.false (newest m.rows) (parts_of m) m.shared (length (items m.rows)) (length-reverse (items m.rows)) in
+    let o = over_own a.obj a.path.steps.now a.path.keys.now k a.units.now a.wide c.requires c.if-path-gt-PATH_STEPS.false (newest m.rows) (parts_of m) m.shared (length (items m.rows)) (length-reverse (items m.rows)) in
     record {
       answer = sym (late_full a.obj a.path.steps.now a.path.keys.now k a.units.now (held_of m) c.if-path-gt-PATH_STEPS.false false (o ∙ (sym (c.is_full.ensures a.wide) ∙ c.if-is_full.false)));
-      held = told_stored a.obj a.path.steps.now a.path.keys.now k a.units.now a.wide (whole_parts a.path.steps.now a.path.keys.now a.path.whole).1 c.if-path-gt-PATH_STEPS.false (newest m.rows) (parts_of m) m.shared (newest c.extend-6.new.s) P eR eP;
-      wide = flags_stored a.obj a.path.steps.now a.path.keys.now k a.units.now a.wide (whole_parts a.path.steps.now a.path.keys.now a.path.whole).1 c.if-path-gt-PATH_STEPS.false (newest m.rows) (parts_of m) m.shared (newest c.extend-6.new.s) P eR eP;
+      held = told_stored a.obj a.path.steps.now a.path.keys.now k a.units.now a.wide c.requires c.if-path-gt-PATH_STEPS.false (newest m.rows) (parts_of m) m.shared (newest c.extend-6.new.s) P eR eP;
+      wide = flags_stored a.obj a.path.steps.now a.path.keys.now k a.units.now a.wide c.requires c.if-path-gt-PATH_STEPS.false (newest m.rows) (parts_of m) m.shared (newest c.extend-6.new.s) P eR eP;
     }

@@ -1,14 +1,12 @@
-use Rattle.std.proofs.Common.{◌≡◌, cond, ◌∷◌, is_ok, Ok, Err, Result, sym, refl, ap, ◌∙◌}
+use Rattle.std.proofs.Common.{◌≡◌, cond, ◌∷◌, is_ok, Err, Result, sym, ap, ◌∙◌}
 use Rattle.std.proofs.lemmas.Result.{err_from_is_err_and}
 use Rattle.types.specs.declared.error.Refusal.{Refusal}
 use Rattle.patch_call.specs.Seen.{call_seen}
-use Rattle.patch_call.specs.Refused.{early}
 use Rattle.patch.specs.Rows.{steps_told}
 use Rattle.patch.specs.Told.{wide_flags}
 use Rattle.patch.specs.Held.{held_of, flags_of}
 use Rattle.patch.specs.Made.{call_values, with_own}
 use Rattle.patch.proofs.Adding.{refused_early, passed_early}
-use Rattle.patch.proofs.Fine.{no_refusal}
 use Rattle.patch.proofs.memory.PatchMemory.append.Goals as goal
 
 pub returns-in_err-check_call : goal.returns-in_err-check_call
@@ -21,9 +19,6 @@ returns-in_err-check_call g c =
       held = sym (ap (λ r. cond (is_ok r) (with_own a.obj (steps_told a.path.steps.now a.path.keys.now) (call_seen a.call) a.units.now (held_of a.self.now)) (held_of a.self.now)) e);
       wide = sym (ap (λ r. cond (is_ok r) (wide_flags (call_values (call_seen a.call) a.wide) ∷ flags_of a.self.now) (flags_of a.self.now)) e);
     }
-
-pub add-requires : goal.add-requires
-add-requires g c = no_refusal c.in_ok-check_call.field-0 (early c.args.obj (call_seen c.args.call)) (sym c.in_ok-check_call.was ∙ c.check_call.ensures)
 
 pub returns : goal.returns
 returns g c =

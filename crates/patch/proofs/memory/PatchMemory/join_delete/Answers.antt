@@ -1,4 +1,4 @@
-use Rattle.std.proofs.Common.{◌≡◌, true, false, ◌∷◌, length, drop, sym, refl, ap, ◌∙◌, arith}
+use Rattle.std.proofs.Common.{◌≡◌, ◌∷◌, length, drop, sym, ap, ◌∙◌, arith}
 use Rattle.std.proofs.lemmas.List.{length-reverse, length-take-le}
 use Rattle.sequence_tree.specs.Places.{items}
 use Rattle.meaning.specs.Results.{provided}
@@ -8,10 +8,8 @@ use Rattle.patch.specs.Told.{block, told, flags_told, laid}
 use Rattle.patch.specs.Edits.{lengthen, length_fits, of_tail}
 use Rattle.patch.specs.Tails.{lengthen_row, with_action}
 use Rattle.patch.specs.Sound.{newest}
-use Rattle.patch.specs.Held.{parts_of, held_of}
-use Rattle.patch.specs.Fine.{all_fine}
-use Rattle.patch.proofs.Fine.{fine_change, length_fine}
-use Rattle.patch.proofs.Changes.{row_laid, row_told, row_flags, tail_told, length_counts, length_told, length_some, length_none}
+use Rattle.patch.specs.Held.{parts_of}
+use Rattle.patch.proofs.Changes.{row_laid, row_told, row_flags, tail_told, length_counts, length_told, length_some}
 use Rattle.patch.proofs.memory.PatchMemory.join_delete.Goals as goal
 
 pub set_tail-requires : goal.set_tail-requires
@@ -33,16 +31,13 @@ invariant_of-self g c =
     let l = ap length e in
     let p = ap length c.set_tail.ensures.items in
     let k = length-reverse (items m.rows) in
-    let q = length-reverse (items c.set_tail.new.rows) in (
-      (c.set_tail.ensures.fits, m.placed.1, m.placed.2, m.placed.3, m.placed.4),
-      (
-        (omega (arith, m.roomy.0, c.set_tail.ensures.room), m.roomy.1, m.roomy.2, m.roomy.3, m.roomy.4),
-        (
-          (omega (arith, m.few.0, l, p, k, q), m.few.1, m.few.2, m.few.3),
-          (ap (λ rs. laid rs (parts_of m)) eR ∙ row_laid (newest m.rows) (parts_of m) m.shared r e (lengthen_row c.args.m r.action) (lengthen c.args.m) (length_counts c.args.m r.action).0 (length_counts c.args.m r.action).1 (length_counts c.args.m r.action).2 (length_counts c.args.m r.action).3 (length_told c.args.m r.action), (ap (λ rs. all_fine (told rs (parts_of m))) eR ∙ (ap all_fine (row_told (newest m.rows) (parts_of m) m.shared r e (lengthen_row c.args.m r.action) (lengthen c.args.m) (length_counts c.args.m r.action).0 (length_counts c.args.m r.action).1 (length_counts c.args.m r.action).2 (length_counts c.args.m r.action).3 (length_told c.args.m r.action)) ∙ (fine_change (lengthen c.args.m) (length_fine c.args.m) (held_of m) ∙ m.fine)), tt)),
-        ),
-      ),
-    )
+    let q = length-reverse (items c.set_tail.new.rows) in
+    record {
+      placed = (c.set_tail.ensures.fits, m.placed.1, m.placed.2, m.placed.3, m.placed.4);
+      roomy = (omega (arith, m.roomy.0, c.set_tail.ensures.room), m.roomy.1, m.roomy.2, m.roomy.3, m.roomy.4);
+      few = (omega (arith, m.few.0, l, p, k, q), m.few.1, m.few.2, m.few.3);
+      shared = ap (λ rs. laid rs (parts_of m)) eR ∙ row_laid (newest m.rows) (parts_of m) m.shared r e (lengthen_row c.args.m r.action) (lengthen c.args.m) (length_counts c.args.m r.action).0 (length_counts c.args.m r.action).1 (length_counts c.args.m r.action).2 (length_counts c.args.m r.action).3 (length_told c.args.m r.action);
+    }
 
 pub returns : goal.returns
 returns g c =

@@ -8,9 +8,7 @@ use Rattle.meaning.specs.Builder.{overfull}
 use Rattle.patch.specs.Told.{told, flags_told, laid}
 use Rattle.patch.specs.Edits.{change_tail, add_units}
 use Rattle.patch.specs.Sound.{newest}
-use Rattle.patch.specs.Held.{parts_of, held_of}
-use Rattle.patch.specs.Fine.{all_fine}
-use Rattle.patch.proofs.Fine.{fine_change, units_fine}
+use Rattle.patch.specs.Held.{parts_of}
 use Rattle.patch.proofs.Tell.{overfull_told}
 use Rattle.patch.proofs.Joins.{none_passes, units_other, units_laid, units_told, units_flags, units_over, units_stored, length_splice}
 use Rattle.patch.proofs.memory.PatchMemory.join_splice.Goals as goal
@@ -78,16 +76,13 @@ invariant_of-self g c =
     let l = ap length e in
     let q = ap length c.set_tail.ensures.items in
     let k = length-reverse (items c.set_tail.new.rows) in
-    let nu : length (items c.splice.new.self) ≡ length (items m.units) + length us = ap length c.splice.ensures.items ∙ length_splice (items m.units) us p in (
-      (c.set_tail.ensures.fits, m.placed.1, m.placed.2, c.splice.ensures.fits, m.placed.4),
-      (
-        (omega (arith, m.roomy.0, c.set_tail.ensures.room), m.roomy.1, m.roomy.2, omega (arith, m.roomy.3, c.splice.ensures.room), m.roomy.4),
-        (
-          (omega (arith, m.few.0, l, q, k, lr), m.few.1, omega (arith, nu, w), m.few.3),
-          ((λ k. laid (c.set_tail.ensures.items k) (eP k)) ∙ units_laid R (parts_of m) m.shared r e i n c.args.j us a, ((λ k. all_fine (told (c.set_tail.ensures.items k) (eP k))) ∙ (ap all_fine (units_told R (parts_of m) m.shared r e i n c.args.j us a) ∙ (fine_change (add_units c.args.j us) (units_fine c.args.j us) (held_of m) ∙ m.fine)), tt)),
-        ),
-      ),
-    )
+    let nu : length (items c.splice.new.self) ≡ length (items m.units) + length us = ap length c.splice.ensures.items ∙ length_splice (items m.units) us p in
+    record {
+      placed = (c.set_tail.ensures.fits, m.placed.1, m.placed.2, c.splice.ensures.fits, m.placed.4);
+      roomy = (omega (arith, m.roomy.0, c.set_tail.ensures.room), m.roomy.1, m.roomy.2, omega (arith, m.roomy.3, c.splice.ensures.room), m.roomy.4);
+      few = (omega (arith, m.few.0, l, q, k, lr), m.few.1, omega (arith, nu, w), m.few.3);
+      shared = (λ k. laid (c.set_tail.ensures.items k) (eP k)) ∙ units_laid R (parts_of m) m.shared r e i n c.args.j us a;
+    }
 
 pub returns : goal.returns
 returns g c =

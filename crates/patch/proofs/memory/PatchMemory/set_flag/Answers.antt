@@ -1,15 +1,12 @@
-use Rattle.std.proofs.Common.{◌≡◌, true, false, ◌∷◌, length, drop, sym, refl, ap, ◌∙◌, arith}
+use Rattle.std.proofs.Common.{◌≡◌, ◌∷◌, length, drop, ap, ◌∙◌, arith}
 use Rattle.std.proofs.lemmas.List.{length-reverse, length-take-le}
 use Rattle.sequence_tree.specs.Places.{items}
-use Rattle.patch.specs.Rows.{steps_len}
 use Rattle.patch.specs.Told.{told, flags_told, laid}
 use Rattle.patch.specs.Edits.{flag_put}
 use Rattle.patch.specs.Tails.{flag_row, with_action}
 use Rattle.patch.specs.Sound.{newest}
-use Rattle.patch.specs.Held.{parts_of, held_of}
-use Rattle.patch.specs.Fine.{all_fine}
-use Rattle.patch.proofs.Fine.{fine_change, flag_fine}
-use Rattle.patch.proofs.Changes.{row_laid, row_told, row_flags, tail_told, flag_counts, flag_told}
+use Rattle.patch.specs.Held.{parts_of}
+use Rattle.patch.proofs.Changes.{row_laid, row_told, row_flags, flag_counts, flag_told}
 use Rattle.patch.proofs.memory.PatchMemory.set_flag.Goals as goal
 
 pub set_tail-requires : goal.set_tail-requires
@@ -29,16 +26,13 @@ invariant_of-self g c =
     let l = ap length e in
     let p = ap length c.set_tail.ensures.items in
     let k = length-reverse (items m.rows) in
-    let q = length-reverse (items c.set_tail.new.rows) in (
-      (c.set_tail.ensures.fits, m.placed.1, m.placed.2, m.placed.3, m.placed.4),
-      (
-        (omega (arith, m.roomy.0, c.set_tail.ensures.room), m.roomy.1, m.roomy.2, m.roomy.3, m.roomy.4),
-        (
-          (omega (arith, m.few.0, l, p, k, q), m.few.1, m.few.2, m.few.3),
-          (ap (λ rs. laid rs (parts_of m)) eR ∙ row_laid (newest m.rows) (parts_of m) m.shared r e (flag_row r.action) flag_put (flag_counts r.action).0 (flag_counts r.action).1 (flag_counts r.action).2 (flag_counts r.action).3 (flag_told r.action), (ap (λ rs. all_fine (told rs (parts_of m))) eR ∙ (ap all_fine (row_told (newest m.rows) (parts_of m) m.shared r e (flag_row r.action) flag_put (flag_counts r.action).0 (flag_counts r.action).1 (flag_counts r.action).2 (flag_counts r.action).3 (flag_told r.action)) ∙ (fine_change flag_put flag_fine (held_of m) ∙ m.fine)), tt)),
-        ),
-      ),
-    )
+    let q = length-reverse (items c.set_tail.new.rows) in
+    record {
+      placed = (c.set_tail.ensures.fits, m.placed.1, m.placed.2, m.placed.3, m.placed.4);
+      roomy = (omega (arith, m.roomy.0, c.set_tail.ensures.room), m.roomy.1, m.roomy.2, m.roomy.3, m.roomy.4);
+      few = (omega (arith, m.few.0, l, p, k, q), m.few.1, m.few.2, m.few.3);
+      shared = ap (λ rs. laid rs (parts_of m)) eR ∙ row_laid (newest m.rows) (parts_of m) m.shared r e (flag_row r.action) flag_put (flag_counts r.action).0 (flag_counts r.action).1 (flag_counts r.action).2 (flag_counts r.action).3 (flag_told r.action);
+    }
 
 pub returns : goal.returns
 returns g c =
