@@ -40,6 +40,7 @@ LEMMAS = (
     "item-of",
     "joining-sample",
     "keys-told",
+    "load-told",
     "mod-at",
     "mod-in",
     "no-entry",
