@@ -6,20 +6,20 @@ use Rattle.node_table.specs.Held.{Datum, datum}
 use Rattle.node_table.proofs.Inserts.{used_high, used_lev}
 use Rattle.node_table.proofs.Sums.{parts, Parts}
 use Rattle.value_memory.specs.declared.tables.Tables.{Tables}
-use Rattle.value_memory.specs.Memory.{nodes_in, kids, units_at, tree_of, Sound}
+use Rattle.value_memory.specs.Memory.{nodes_in, kids, units_at, tree_of}
 use Rattle.value_edits.specs.Acted.{At, Way}
 
 module _ {U : Type 0} (m : Tables U) where
   -- the entry at a place, and the tree there that is d deep
   abbrev pub data_at : ℕ → Datum U
-  data_at = datum (nodes_in m) m.keys.at.now m.strings.at.now (units_at m)
+  data_at = datum (nodes_in m) m.keys.now m.strings.now (units_at m)
 
   abbrev pub tree_at : ℕ → ℕ → Tree (Datum U)
   tree_at = tree data_at (kids m)
 
-  module _ (S : Sound m) (o : ℕ) (A : At m o) (ps : List ℕ) (W : Way m o ps) where
+  module _ (o : ℕ) (A : At m o) (ps : List ℕ) (W : Way m o ps) where
     pub shallow : length ps < 17
-    shallow = let e = used_lev S.used ps W.steps W.reaches in omega (arith, A.deep)
+    shallow = let e = used_lev m.sound.used ps W.steps W.reaches in omega (arith, A.deep)
 
     -- how deep the tree at o is read below it
     abbrev pub rest : ℕ
@@ -35,8 +35,8 @@ module _ {U : Type 0} (m : Tables U) where
     at_place = led.is ∙ ap (tree_at (suc rest)) W.reaches
 
   -- a place in use is below the places' end, and some way leads there
-  pub place_low : Sound m → {o : ℕ} → Under (kids m) 0 o → o < 4097
-  place_low S u = used_high S.used u
+  pub place_low : {o : ℕ} → Under (kids m) 0 o → o < 4097
+  place_low u = used_high m.sound.used u
 
   pub way_of : {o : ℕ} → Under (kids m) 0 o → (ps : List ℕ) × Way m o ps
   way_of u = (u.0, record { steps = u.1; reaches = u.2 })

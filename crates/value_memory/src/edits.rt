@@ -5,11 +5,12 @@ ghost use Rattle.node_table.specs.Kinds.{branches, is_text, raising};
 ghost use Rattle.node_table.specs.Held.{Stands, flagged, raised, refilled, respelled};
 ghost use Rattle.node_chains.specs.Tree.{node, none, splice_kids, pruned, relabel, Under};
 ghost use Rattle.node_chains.specs.Chains.{item_at, lev_at};
-ghost use Rattle.value_memory.specs.Memory.{nodes_in, kids, units_at, Sound, Edited, Kept};
+ghost use Rattle.value_memory.specs.Memory.{nodes_in, kids, units_at, Edited, Kept};
 
-use crate::lent::{flag_lent, insert_lent, raise_lent, remove_lent, replace_lent, splice_lent};
 use crate::tables::Tables;
 use node_chains::node::Content;
+use node_table::edits::{insert_child, remove_child, replace_content};
+use node_table::in_place::{add_to_counter, set_conflict, splice_units};
 use types::error::Refusal;
 
 impl<'m, U: Copy> Tables<'m, U> {
@@ -23,7 +24,6 @@ impl<'m, U: Copy> Tables<'m, U> {
         conflict: bool,
         string: &[u8],
     )
-        requires sound { Sound self.old }
         requires used { Under (kids self.old) 0 o }
         requires container { branches (item_at (nodes_in self.old) o).content ≡ true }
         requires deep { lev_at (nodes_in self.old) o < 17 }
@@ -33,15 +33,14 @@ impl<'m, U: Copy> Tables<'m, U> {
         ensures edited { Edited o (splice_kids at 0 (node (record { key = key.now; content = content; conflict = conflict; string = string.now; units = [] }) none ∷ [])) self.old self.new }
         ensures stands { Stands (kids self.old) (kids self.new) o }
     {
-        insert_lent(
-            &mut self.nodes,
-            &mut self.starts,
-            &mut self.chain,
-            &mut self.keys,
-            &mut self.strings,
-            &self.begins,
-            &self.units,
+        insert_child::<U>(
+            self.nodes,
+            self.starts,
+            self.chain,
+            self.keys,
+            self.strings,
             &mut self.bytes,
+            4097,
             o,
             at,
             key,
@@ -53,21 +52,19 @@ impl<'m, U: Copy> Tables<'m, U> {
 
     // The child k of o goes, with all under it.
     pub fn remove_child(&mut self, o: usize, k: usize)
-        requires sound { Sound self.old }
         requires used { Under (kids self.old) 0 o }
         requires child { k < length (kids self.old o) }
         ensures edited { Edited o (splice_kids k 1 []) self.old self.new }
         ensures stands { Stands (kids self.old) (kids self.new) o }
     {
-        remove_lent(
-            &mut self.nodes,
-            &mut self.starts,
-            &mut self.chain,
-            &self.keys,
-            &self.strings,
-            &mut self.begins,
-            &mut self.units,
+        remove_child(
+            self.nodes,
+            self.starts,
+            self.chain,
+            self.begins,
+            self.units,
             &mut self.bytes,
+            4097,
             o,
             k,
         );
@@ -75,21 +72,20 @@ impl<'m, U: Copy> Tables<'m, U> {
 
     // What c holds gives way to new content, with no children and no units; its key stays.
     pub fn replace_content(&mut self, c: usize, content: Content, conflict: bool, string: &[u8])
-        requires sound { Sound self.old }
         requires used { Under (kids self.old) 0 c }
         requires below { 0 < c }
         requires short { length string.now ≤ 256 }
         ensures { Edited c (λ x. relabel (refilled content conflict string.now) (pruned x)) self.old self.new }
     {
-        replace_lent(
-            &mut self.nodes,
-            &mut self.starts,
-            &mut self.chain,
-            &self.keys,
-            &mut self.strings,
-            &mut self.begins,
-            &mut self.units,
+        replace_content(
+            self.nodes,
+            self.starts,
+            self.chain,
+            self.begins,
+            self.units,
+            self.strings,
             &mut self.bytes,
+            4097,
             c,
             content,
             conflict,
@@ -99,68 +95,31 @@ impl<'m, U: Copy> Tables<'m, U> {
 
     // In the text at c, the k units from `at` on are replaced by xs.
     pub fn splice_units(&mut self, c: usize, at: usize, k: usize, xs: &[U])
-        requires sound { Sound self.old }
         requires low { c < 4097 }
         requires text { is_text (item_at (nodes_in self.old) c).content ≡ true }
         requires inside { at + k ≤ length (units_at self.old c) }
-        requires room { used self.old.begins.at.now + length xs.now ≤ 32768 + k }
+        requires room { used self.old.begins.now + length xs.now ≤ 32768 + k }
         ensures { Edited c (relabel (respelled at k xs.now)) self.old self.new }
     {
-        splice_lent(
-            &self.nodes,
-            &self.starts,
-            &self.chain,
-            &self.keys,
-            &self.strings,
-            &mut self.begins,
-            &mut self.units,
-            &self.bytes,
-            c,
-            at,
-            k,
-            xs,
-        );
+        splice_units(self.begins, self.units, c, at, k, xs);
     }
 
     // The entry at c is flagged as a conflict.
     pub fn set_conflict(&mut self, c: usize)
-        requires sound { Sound self.old }
         requires used { Under (kids self.old) 0 c }
         requires below { 0 < c }
         ensures { Edited c (relabel flagged) self.old self.new }
     {
-        flag_lent(
-            &mut self.nodes,
-            &self.starts,
-            &self.chain,
-            &self.keys,
-            &self.strings,
-            &self.begins,
-            &self.units,
-            &self.bytes,
-            c,
-        );
+        set_conflict::<U>(self.nodes, c);
     }
 
     // Adds to the counter at c; what is no counter, or would pass 64 bits, is refused and stays.
     pub fn add_to_counter(&mut self, c: usize, by: i64) -> Result<(), Refusal>
-        requires sound { Sound self.old }
         requires used { Under (kids self.old) 0 c }
         requires below { 0 < c }
         ensures answer { result ≡ raising by (item_at (nodes_in self.old) c).content }
         ensures effect { MatchResult result (λ _. Edited c (relabel (raised by)) self.old self.new) (λ _. Kept self.old self.new) }
     {
-        raise_lent(
-            &mut self.nodes,
-            &self.starts,
-            &self.chain,
-            &self.keys,
-            &self.strings,
-            &self.begins,
-            &self.units,
-            &self.bytes,
-            c,
-            by,
-        )
+        add_to_counter::<U>(self.nodes, c, by)
     }
 }

@@ -2,6 +2,5 @@
 #![tactic(auto)]
 
 mod edits;
-mod lent;
 mod reads;
 pub mod tables;

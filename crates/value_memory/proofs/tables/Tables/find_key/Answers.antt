@@ -6,10 +6,10 @@ use Rattle.value_memory.proofs.tables.Tables.find_key.Goals as goal
 
 pub find_key-requires : goal.find_key-requires
 find_key-requires g c = record {
-  lawful = c.requires.sound.used.placing;
+  lawful = c.args.self.now.sound.used.placing;
   inside = c.requires.low;
-  slots = omega (arith, c.requires.sound.key_slots);
-  short = λ i. (c.requires.sound.used.short i).0;
+  slots = omega (arith, c.args.self.now.sound.key_slots);
+  short = λ i. (c.args.self.now.sound.used.short i).0;
   rising = c.requires.rising;
 }
 
@@ -17,6 +17,6 @@ pub returns : goal.returns
 returns g c =
     let m = c.args.self.now in
     on_found
-    (Found (key_of (nodes_in m) m.keys.at.now) (kids m c.args.o) c.args.key.now)
-    (Missing (key_of (nodes_in m) m.keys.at.now) (kids m c.args.o) c.args.key.now)
+    (Found (key_of (nodes_in m) m.keys.now) (kids m c.args.o) c.args.key.now)
+    (Missing (key_of (nodes_in m) m.keys.now) (kids m c.args.o) c.args.key.now)
     c.find_key.result c.find_key.ensures

@@ -3,6 +3,6 @@ use Rattle.value_memory.proofs.tables.Tables.kid_count.Goals as goal
 
 pub row_len-requires : goal.row_len-requires
 row_len-requires g c = record {
-  packed = c.requires.sound.used.placing.packed;
-  inside = omega (arith, c.requires.sound.used.placing.rows, c.requires.low);
+  packed = c.args.self.now.sound.used.placing.packed;
+  inside = omega (arith, c.args.self.now.sound.used.placing.rows, c.requires.low);
 }

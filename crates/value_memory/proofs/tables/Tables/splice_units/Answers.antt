@@ -1,9 +1,9 @@
 use Rattle.std.proofs.Common.{◌∙◌, arith}
-use Rattle.value_memory.proofs.lent.splice_lent.Goals as goal
+use Rattle.value_memory.proofs.tables.Tables.splice_units.Goals as goal
 
 pub splice_units-requires : goal.splice_units-requires
 splice_units-requires g c =
-    let S = c.requires.sound in
+    let S = c.args.self.now.sound in
     record {
       packed = S.packed;
       row = omega (arith, S.text_starts, c.requires.low);
@@ -12,9 +12,9 @@ splice_units-requires g c =
       small = omega (arith, S.text_places);
     }
 
-pub returns : goal.returns
-returns g c =
-    let S = c.requires.sound in
+pub invariant_of-self : goal.invariant_of-self
+invariant_of-self g c =
+    let S = c.args.self.now.sound in
     let E = c.splice_units.ensures in
     record {
       sound = record {
@@ -28,5 +28,7 @@ returns g c =
         text_starts = c.splice_units.auto.unit_starts ∙ S.text_starts;
         text_places = c.splice_units.auto.units ∙ S.text_places;
       };
-      changed = E.changed 4097 _ _ _ _ _ _ S.used;
     }
+
+pub returns : goal.returns
+returns g c = c.splice_units.ensures.changed 4097 _ _ _ _ _ _ c.args.self.now.sound.used
