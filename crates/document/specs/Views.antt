@@ -2,14 +2,14 @@
 use Rattle.std.specs.Prelude.{ℕ, List, Some, None, Option as Answer}
 use Rattle.std.proofs.Math.Option.{Option, none, some}
 use Rattle.std.specs.Borrow.{Bor}
-use Rattle.types.specs.declared.value.ScalarValue.{ScalarValue}
-use Rattle.types.specs.declared.value.ScalarValue.TheVariants.{Null, Boolean, Int, Uint, Timestamp, Counter, Str, Bytes}
-use Rattle.types.specs.declared.value.Value.{Value}
-use Rattle.types.specs.declared.value.Value.TheVariants.{Object, Scalar as Plain}
+use Rattle.types.specs.declared.value.ScalarOf.{ScalarOf}
+use Rattle.types.specs.declared.value.ScalarOf.TheVariants.{Null, Boolean, Int, Uint, Timestamp, Counter, Str, Bytes}
+use Rattle.types.specs.declared.value.ValueOf.{ValueOf}
+use Rattle.types.specs.declared.value.ValueOf.TheVariants.{Object, Scalar as Plain}
 use Rattle.meaning.specs.Entries.{Key, Scalar, null, boolean, int, uint, timestamp, counter, str, bytes, Content, scalar_of, object_of, Entry}
 use Rattle.document.specs.declared.view.Entry.{Entry as Lent}
 
-abbrev pub scalar_seen : ScalarValue → Scalar
+abbrev pub scalar_seen : ScalarOf (Bor (List ℕ)) → Scalar
 scalar_seen Null = null
 scalar_seen (Boolean b) = boolean b
 scalar_seen (Int n) = int n
@@ -19,7 +19,7 @@ scalar_seen (Counter n) = counter n
 scalar_seen (Str s) = str s.now
 scalar_seen (Bytes s) = bytes s.now
 
-abbrev pub content_seen : Value → Content
+abbrev pub content_seen : ValueOf (Bor (List ℕ)) → Content
 content_seen (Object k) = object_of k
 content_seen (Plain s) = scalar_of (scalar_seen s)
 

@@ -1,10 +1,12 @@
 -- What is lent of a call, as the meaning has it.
-use Rattle.types.specs.declared.value.ScalarValue.{ScalarValue}
-use Rattle.types.specs.declared.value.ScalarValue.TheVariants.{Null, Boolean, Int, Uint, Timestamp, Counter, Str, Bytes}
-use Rattle.types.specs.declared.value.Value.{Value}
-use Rattle.types.specs.declared.value.Value.TheVariants.{Object, Scalar as Plain}
-use Rattle.types.specs.declared.value.Prop.{Prop as LentProp}
-use Rattle.types.specs.declared.value.Prop.TheVariants.{Map, Seq}
+use Rattle.std.specs.Prelude.{ℕ, List}
+use Rattle.std.specs.Borrow.{Bor}
+use Rattle.types.specs.declared.value.ScalarOf.{ScalarOf}
+use Rattle.types.specs.declared.value.ScalarOf.TheVariants.{Null, Boolean, Int, Uint, Timestamp, Counter, Str, Bytes}
+use Rattle.types.specs.declared.value.ValueOf.{ValueOf}
+use Rattle.types.specs.declared.value.ValueOf.TheVariants.{Object, Scalar as Plain}
+use Rattle.types.specs.declared.value.PropOf.{PropOf}
+use Rattle.types.specs.declared.value.PropOf.TheVariants.{Map, Seq}
 use Rattle.patch_call.specs.declared.call.Entry.{Entry as LentEntry}
 use Rattle.patch_call.specs.declared.call.Call.{Call as LentCall}
 use Rattle.patch_call.specs.declared.call.Call.TheVariants.{Put, Insert, DeleteSeq, DeleteMap, Increment, FlagConflict, SpliceText}
@@ -13,11 +15,11 @@ use Rattle.meaning.specs.Patches.{Prop, key, pos}
 use Rattle.meaning.specs.Calls.{Call, put_call, insert_call, delete_seq_call, delete_map_call, increment_call, flag_call, splice_call}
 
 -- Where in an object.
-abbrev pub prop_seen : LentProp → Prop
+abbrev pub prop_seen : PropOf (Bor (List ℕ)) → Prop
 prop_seen (Map k) = key k.now
 prop_seen (Seq i) = pos i
 
-abbrev pub scalar_seen : ScalarValue → Scalar
+abbrev pub scalar_seen : ScalarOf (Bor (List ℕ)) → Scalar
 scalar_seen Null = null
 scalar_seen (Boolean b) = boolean b
 scalar_seen (Int n) = int n
@@ -28,7 +30,7 @@ scalar_seen (Str s) = str s.now
 scalar_seen (Bytes s) = bytes s.now
 
 -- A scalar, or a new object.
-abbrev pub content_seen : Value → Content
+abbrev pub content_seen : ValueOf (Bor (List ℕ)) → Content
 content_seen (Object k) = object_of k
 content_seen (Plain s) = scalar_of (scalar_seen s)
 

@@ -1,11 +1,12 @@
-ghost use Rattle.std.specs.Prelude.{◌≡◌, true, false};
+ghost use Rattle.std.specs.Prelude.{◌≡◌, Some};
 ghost use Rattle.types.specs.Identities.{compare_ids, root_id, is_root};
-ghost use Rattle.types.specs.Kinds.{is_sequence};
+ghost use Rattle.types.specs.Kinds.{is_sequence, kind_name};
 
 use std::cmp::Ordering;
+use std::fmt;
 
 // The identity of an entry: a counter and the actor that counted.
-#[derive(Clone, Copy, PartialEq, Eq, Debug)]
+#[derive(Clone, Copy, PartialEq, Eq, PartialOrd, Ord, Debug)]
 pub struct OpId {
     pub counter: u32,
     pub actor: u32,
@@ -22,17 +23,13 @@ impl OpId {
     pub fn compare(self, other: OpId) -> Ordering
         ensures { result ≡ compare_ids self other }
     {
-        if self.counter != other.counter {
-            self.counter.cmp(&other.counter)
-        } else {
-            self.actor.cmp(&other.actor)
-        }
+        self.cmp(&other)
     }
 }
 
 // The identity of an object, of a type of its own, so that it never meets
 // that of an entry by accident.
-#[derive(Clone, Copy, PartialEq, Eq, Debug)]
+#[derive(Clone, Copy, PartialEq, Eq, PartialOrd, Ord, Debug)]
 pub struct ObjId(pub OpId);
 
 impl ObjId {
@@ -49,7 +46,7 @@ impl ObjId {
     pub fn is_root(self) -> bool
         ensures { result ≡ is_root self }
     {
-        self.0.counter == 0 && self.0.actor == 0
+        self == ObjId::root()
     }
 
     pub fn compare(self, other: ObjId) -> Ordering
@@ -74,11 +71,19 @@ impl ObjType {
     pub fn is_sequence(self) -> bool
         ensures { result ≡ is_sequence self }
     {
-        match self {
-            ObjType::Map => false,
-            ObjType::Table => false,
-            ObjType::List => true,
-            ObjType::Text => true,
-        }
+        matches!(self, ObjType::List | ObjType::Text)
+    }
+}
+
+impl fmt::Display for ObjType {
+    ghost output = { λ k. Some (kind_name k) };
+
+    fn fmt<W: fmt::Write>(&self, f: &mut fmt::Formatter<W>) -> fmt::Result {
+        f.write_str(match self {
+            ObjType::Map => "map",
+            ObjType::Table => "table",
+            ObjType::List => "list",
+            ObjType::Text => "text",
+        })
     }
 }
