@@ -1,6 +1,7 @@
 -- What the places hold after a part of them was replaced.
-use Rattle.std.proofs.Common.{◌≡◌, ℕ, ◌+◌, ◌-◌, ◌<◌, ◌≤◌, List, [], ◌∷◌, ◌++◌, length, get_or, take, set, sym, ap, ◌∙◌, arith, length-append, length-drop, length-set, length-take, get_or-set_other, get_or-set_same, rules}
-use Rattle.std.proofs.lemmas.List.{places, same_lists, take_all, drop_all, append-nil}
+use Rattle.std.proofs.Common.{◌≡◌, ℕ, ◌+◌, ◌-◌, ◌<◌, ◌≤◌, List, length, get_or, take, arith, length-append, length-drop, length-take, rules}
+use borrow.Rule.Slice.PartMut.{put_mid}
+use Rattle.std.proofs.lemmas.List.{places, same_lists}
 use Rattle.sequence_tree.specs.Lists.{spliced, Replaced}
 
 -- the first n places, read element by element, are the spliced list
@@ -10,25 +11,14 @@ spliced_is s t xs n at k a b e f h =
     same_lists _ _ (search (rules, places))
     (λ j d l. grind (arith, places, h.below j d, h.here (j - at) d, h.tail (j - at - length xs) d))
 
--- a write into the one place that was made free
-pub put_is : {X : Type 0} (s s' : List X) (x : X) (n at : ℕ) → at ≤ n → n < length s → length s' ≡ length s
+-- a write of xs over the places that were made free
+pub written_is : {X : Type 0} (s s' ys xs : List X) (n at k w : ℕ) → at + k ≤ n → n ≤ length s → length s' ≡ length s → n + length xs ≤ length s + k → w ≡ length xs → ys ≡ xs
     → ((j : ℕ) (d : X) → j < at → get_or s' j d ≡ get_or s j d)
-    → ((j : ℕ) (d : X) → at + 0 + j < n → get_or s' (at + 1 + j) d ≡ get_or s (at + 0 + j) d)
-    → take (n + 1) (set s' at x) ≡ spliced (take n s) at 0 (x ∷ [])
-put_is s s' x n at a b e p r =
-    let m : n - 0 + 1 ≡ n + 1 = omega arith in
-    rw (sym m)
-    (spliced_is s (set s' at x) (x ∷ []) n at 0 (omega arith) (omega arith) (length-set s' at x ∙ e) (omega arith)
-    (record {
-      below = λ j d h. get_or-set_other s' at j x d (omega arith) ∙ p j d h;
-      here = λ j d h. let z : j ≡ 0 = omega arith in rw z (let y : at + 0 ≡ at = omega arith in rw y (get_or-set_same s' at x d (omega arith)));
-      tail = λ j d h. get_or-set_other s' at (at + 1 + j) x d (omega arith) ∙ r j d h;
-    }))
-
--- replacing nothing at the end is adding there
-pub spliced_end : {X : Type 0} (xs ys : List X) (n : ℕ) → length xs ≡ n → spliced xs n 0 ys ≡ xs ++ ys
-spliced_end xs ys n e =
-    rw (take_all n xs (omega arith), drop_all (n + 0) xs (omega arith)) (ap (λ w. xs ++ w) (append-nil ys))
+    → ((j : ℕ) (d : X) → at + k + j < n → get_or s' (at + length xs + j) d ≡ get_or s (at + k + j) d)
+    → take (n - k + length xs) (put_mid at w s' ys) ≡ spliced (take n s) at k xs
+written_is s s' ys xs n at k w a b e f g h p r =
+    same_lists _ _ (search (rules, places))
+    (λ j d l. grind (arith, places, p j d, r (j - at - length xs) d))
 
 -- The length and the elements of a spliced list.
 module _ {X : Type 0} (xs ys : List X) (at k : ℕ) (h : at + k ≤ length xs) where

@@ -1,4 +1,3 @@
 pub mod Lists
 pub mod Refusals
-pub mod Places
 pub mod Sequences

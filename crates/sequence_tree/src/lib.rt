@@ -3,7 +3,6 @@
 
 pub mod error;
 pub mod places;
-pub mod raw;
 pub mod sequence;
 #[cfg(test)]
 mod tests;

@@ -1,12 +1,13 @@
 // The one sequence: elements in lent places.
-ghost use Rattle.sequence_tree.specs.Places.{Fits};
+ghost use Rattle.std.specs.Prelude.{◌≤◌, length};
 
-use crate::raw::Raw;
+mod changes;
+mod reads;
 
-mod calls;
-
+// Of the places, the first `len` are in use.
 #[derive(Drop)]
 pub struct Sequence<'m, T> {
-    raw: Raw<'m, T>,
-    ghost fits: { Fits raw },
+    places: &'m mut [T],
+    len: usize,
+    ghost fits: { len ≤ length places.now },
 }

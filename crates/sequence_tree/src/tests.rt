@@ -14,3 +14,14 @@ fn replaces_in_place(rt: HostRuntime) {
     assert_eq!(rt; s.get(1), Some(98));
     assert_eq!(rt; s.len(), 3);
 }
+
+#[test]
+fn replaces_where_there_is_room(rt: HostRuntime) {
+    let mut places = [0u8; 4];
+    let mut s = Sequence::new(&mut places);
+    s.extend(b"abc");
+    s.replace(0, 2, b"xyz");
+    assert_eq!(rt; s.as_slice(), b"xyzc".as_slice());
+    s.clear();
+    assert_eq!(rt; s.len(), 0);
+}

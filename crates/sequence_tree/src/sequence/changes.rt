@@ -1,49 +1,32 @@
-ghost use Rattle.std.specs.Prelude.{◌≡◌, [], ◌∷◌, ◌++◌, length, is_ok, if◌then◌else◌, Ok, Err, nat_lt};
+ghost use Rattle.std.specs.Prelude.{◌≡◌, ◌+◌, ◌≤◌, [], ◌∷◌, ◌++◌, length, is_ok, if◌then◌else◌, Ok, Err, nat_lt};
 ghost use Rattle.sequence_tree.specs.declared.error.SequenceError.TheVariants.{OutOfRange, Full};
-ghost use Rattle.std.specs.List.{slice_get};
 ghost use Rattle.sequence_tree.specs.Lists.{spliced};
 ghost use Rattle.sequence_tree.specs.Refusals.{splicing};
 ghost use Rattle.sequence_tree.specs.Sequences.{held, capacity};
 
 use super::Sequence;
 use crate::error::SequenceError;
-use crate::places::check_splice;
-use crate::raw::Raw;
+use crate::places::{check_splice, replace_range};
 
 impl<'m, T: Copy> Sequence<'m, T> {
-    // An empty sequence in these places.
-    pub fn new(places: &'m mut [T]) -> Sequence<'m, T>
-        ensures held { held result ≡ [] }
-        ensures capacity { capacity result ≡ length places.old }
+    // The k elements from `at` on are replaced by xs, for which there is room.
+    pub fn replace(&mut self, at: usize, k: usize, xs: &[T])
+        requires inside { at + k ≤ length (held self.old) }
+        requires room { length (held self.old) + length xs.now ≤ capacity self.old + k }
+        ensures held { held self.new ≡ spliced (held self.old) at k xs.now }
+        ensures capacity { capacity self.new ≡ capacity self.old }
     {
-        Sequence {
-            raw: Raw { places, len: 0 },
-        }
+        replace_range(self.places, self.len, at, k, xs);
+        self.len = self.len - k + xs.len();
     }
 
-    pub fn len(&self) -> usize
-        ensures { result ≡ length (held self.now) }
+    // xs, for which there is room, come after the last.
+    pub fn extend(&mut self, xs: &[T])
+        requires { length (held self.old) + length xs.now ≤ capacity self.old }
+        ensures held { held self.new ≡ held self.old ++ xs.now }
+        ensures capacity { capacity self.new ≡ capacity self.old }
     {
-        self.raw.len
-    }
-
-    pub fn capacity(&self) -> usize
-        ensures { result ≡ capacity self.now }
-    {
-        self.raw.room()
-    }
-
-    pub fn get(&self, i: usize) -> Option<T>
-        ensures { result ≡ slice_get (held self.now) i }
-    {
-        self.raw.get(i)
-    }
-
-    // What it holds.
-    pub fn as_slice(&self) -> &[T]
-        ensures { result.now ≡ held self.now }
-    {
-        self.raw.as_slice()
+        self.replace(self.len, 0, xs);
     }
 
     // The k elements from `at` on are replaced by xs.
@@ -52,8 +35,8 @@ impl<'m, T: Copy> Sequence<'m, T> {
         ensures held { held self.new ≡ (if is_ok result then spliced (held self.old) at k xs.now else held self.old) }
         ensures capacity { capacity self.new ≡ capacity self.old }
     {
-        check_splice(self.capacity(), self.len(), at, k, xs.len())?;
-        self.raw.splice(at, k, xs);
+        check_splice(self.capacity(), self.len, at, k, xs.len())?;
+        self.replace(at, k, xs);
         Ok(())
     }
 
@@ -63,8 +46,8 @@ impl<'m, T: Copy> Sequence<'m, T> {
         ensures held { held self.new ≡ (if is_ok result then spliced (held self.old) i 0 (x ∷ []) else held self.old) }
         ensures capacity { capacity self.new ≡ capacity self.old }
     {
-        check_splice(self.capacity(), self.len(), i, 0, 1)?;
-        self.raw.insert(i, x);
+        check_splice(self.capacity(), self.len, i, 0, 1)?;
+        self.replace(i, 0, &[x]);
         Ok(())
     }
 
@@ -74,10 +57,10 @@ impl<'m, T: Copy> Sequence<'m, T> {
         ensures held { held self.new ≡ (if is_ok result then held self.old ++ x ∷ [] else held self.old) }
         ensures capacity { capacity self.new ≡ capacity self.old }
     {
-        if self.len() >= self.capacity() {
+        if self.len >= self.capacity() {
             return Err(SequenceError::Full);
         }
-        self.raw.push(x);
+        self.extend(&[x]);
         Ok(())
     }
 
@@ -94,6 +77,6 @@ impl<'m, T: Copy> Sequence<'m, T> {
         ensures held { held self.new ≡ [] }
         ensures capacity { capacity self.new ≡ capacity self.old }
     {
-        self.raw.clear();
+        self.len = 0;
     }
 }
