@@ -1,8 +1,9 @@
 -- A call's own patch added to those held.
-use Rattle.std.proofs.Common.{◌≡◌, ℕ, suc, ◌+◌, ◌<◌, ◌≤◌, Bool, true, false, cond, ltb, List, [], ◌∷◌, ◌++◌, reverse, length, drop, Ok, Err, sym, refl, ap, ◌∙◌, arith, length-append}
+use Rattle.std.proofs.Common.{◌≡◌, ℕ, suc, ◌+◌, ◌<◌, ◌≤◌, Bool, true, false, cond, ltb, List, [], ◌∷◌, ◌++◌, length, drop, Ok, Err, sym, refl, ap, ◌∙◌, arith, length-append}
 use mathlib.Core.Option.{Option, none, some}
-use Rattle.std.proofs.lemmas.List.{reverse-append}
-use Rattle.std.proofs.lemmas.Bool.{or_parts, ltb-false, lt-ltb, le-ltb}
+use Rattle.std.proofs.lemmas.List.{length-reverse}
+use Rattle.std.proofs.lemmas.Bool.{lt-ltb, le-ltb}
+use Rattle.sequence_tree.specs.Sequences.{held}
 use Rattle.types.specs.declared.types.ObjId.{ObjId}
 use Rattle.types.specs.declared.error.Refusal.{Refusal}
 use Rattle.types.specs.declared.error.Refusal.TheVariants.{PathTooDeep, Full}
@@ -16,6 +17,9 @@ use Rattle.patch_call.specs.Contents.{call_key, call_data}
 use Rattle.patch_call.specs.Refused.{answer, early, early_tests}
 use Rattle.patch.specs.Rows.{prop_len, steps_len, steps_told}
 use Rattle.patch.specs.Told.{Parts, plus, told, wide_flags, flags_told, laid, passes}
+use Rattle.patch.specs.Sound.{newest}
+use Rattle.patch.specs.Held.{parts_of, held_of, flags_of}
+use Rattle.patch.specs.declared.memory.PatchMemory.{PatchMemory}
 use Rattle.patch.specs.Made.{call_values, call_units, row_made, parts_made, with_own, appending, late, late_tests}
 use Rattle.patch.proofs.Tell.{Fits, told_added, flags_added, laid_added, overfull_told}
 use Rattle.patch.proofs.Own.{fits_own, patch_own}
@@ -24,56 +28,34 @@ pub steps_count : (ss : List StepRow) (bs : List ℕ) → length (steps_told ss 
 steps_count [] bs = refl
 steps_count (s ∷ ss) bs = ap suc (steps_count ss (drop (prop_len s.prop) bs))
 
--- within the bounds
-pub not_full : (p v u b : ℕ) → passes p v u b ≡ false → (p ≤ 4096) × (v ≤ 4096) × (u ≤ 32768) × (b ≤ 32768)
-not_full p v u b h =
-    let x = or_parts (ltb 4096 p) _ h in
-    let y = or_parts (ltb 4096 v) _ x.1 in
-    let z = or_parts (ltb 32768 u) (ltb 32768 b) y.1 in
-    (ltb-false 4096 p x.0, ltb-false 4096 v y.0, ltb-false 32768 u z.0, ltb-false 32768 b z.1)
+-- rows R and parts P are those of m with a call's own patch
+pub record Stored {U : Type 0} (m : PatchMemory U) (o : ObjId) (ss : List StepRow) (ks : List ℕ) (c : Call) (us : List U) (w : Bool) (R : List PatchRow) (P : Parts U) : Type 0 where
+  pub laid : laid R P ≡ true
+  pub told : told R P ≡ with_own o (steps_told ss ks) c us (held_of m)
+  pub flags : flags_told R P ≡ wide_flags (call_values c w) ∷ flags_of m
 
--- one more row is the newest
-pub newest_more : {X : Type 0} (xs : List X) (x : X) → reverse (xs ++ x ∷ []) ≡ x ∷ reverse xs
-newest_more xs x = reverse-append xs (x ∷ [])
+module _ {U : Type 0} (m : PatchMemory U) (o : ObjId) (ss : List StepRow) (ks : List ℕ) (c : Call) (us : List U) (w : Bool) (whole : steps_len ss ≡ length ks) (few : length ss ≤ 16) where
+  pub stored : (R : List PatchRow) (P : Parts U) → R ≡ row_made o ss ks c (length us) w ∷ newest m.rows → P ≡ plus (parts_of m) (parts_made ss ks c us w) → Stored m o ss ks c us w R P
+  stored R P r p =
+      let f = fits_own o ss ks c us w whole few in
+      record {
+        laid = (λ i. laid (r i) (p i)) ∙ laid_added (row_made o ss ks c (length us) w) (newest m.rows) (parts_of m) (parts_made ss ks c us w) f m.shared;
+        told = (λ i. told (r i) (p i)) ∙ (told_added (row_made o ss ks c (length us) w) (newest m.rows) (parts_of m) (parts_made ss ks c us w) f ∙ ap (λ x. x ∷ held_of m) (patch_own o ss ks c us w whole));
+        flags = (λ i. flags_told (r i) (p i)) ∙ flags_added (row_made o ss ks c (length us) w) (newest m.rows) (parts_of m) (parts_made ss ks c us w) f;
+      }
 
-module _ {U : Type 0} (o : ObjId) (ss : List StepRow) (ks : List ℕ) (c : Call) (us : List U) (w : Bool) (whole : steps_len ss ≡ length ks) (few : length ss ≤ 16)
-    (rs : List PatchRow) (p : Parts U) (shared : laid rs p ≡ true) where
-  fits : Fits (row_made o ss ks c (length us) w) (parts_made ss ks c us w)
-  fits = fits_own o ss ks c us w whole few
-
-  pub laid_own : laid (row_made o ss ks c (length us) w ∷ rs) (plus p (parts_made ss ks c us w)) ≡ true
-  laid_own = laid_added (row_made o ss ks c (length us) w) rs p (parts_made ss ks c us w) fits shared
-
-  pub held_own : told (row_made o ss ks c (length us) w ∷ rs) (plus p (parts_made ss ks c us w)) ≡ with_own o (steps_told ss ks) c us (told rs p)
-  held_own =
-      told_added (row_made o ss ks c (length us) w) rs p (parts_made ss ks c us w) fits
-      ∙ ap (λ x. x ∷ told rs p) (patch_own o ss ks c us w whole)
-
-  pub over_own : (n : ℕ) → length rs ≡ n
-      → overfull (with_own o (steps_told ss ks) c us (told rs p))
-      ≡ passes (n + 1) (length p.values + length (call_values c w)) (length p.units + length (call_units c us)) (length p.bytes + (length ks + (length (call_key c) + length (call_data c))))
-  over_own n e =
-      let a : length (row_made o ss ks c (length us) w ∷ rs) ≡ n + 1 = omega arith in
-      let x = length-append p.values (call_values c w) in
-      let y = length-append p.units (call_units c us) in
-      let u = length-append (call_key c) (call_data c) in
-      let v = length-append ks (call_key c ++ call_data c) in
-      let t = length-append p.bytes (ks ++ (call_key c ++ call_data c)) in
-      let z : length (p.bytes ++ (ks ++ (call_key c ++ call_data c))) ≡ length p.bytes + (length ks + (length (call_key c) + length (call_data c))) = omega arith in
-      sym (ap overfull held_own)
-      ∙ (overfull_told (row_made o ss ks c (length us) w ∷ rs) (plus p (parts_made ss ks c us w)) laid_own
-      ∙ (λ i. passes (a i) (x i) (y i) (z i)))
-
-  -- the memory once it is stored
-  module _ (R : List PatchRow) (P : Parts U) (eR : R ≡ row_made o ss ks c (length us) w ∷ rs) (eP : P ≡ plus p (parts_made ss ks c us w)) where
-    pub laid_stored : laid R P ≡ true
-    laid_stored = (λ i. laid (eR i) (eP i)) ∙ laid_own
-
-    pub told_stored : told R P ≡ with_own o (steps_told ss ks) c us (told rs p)
-    told_stored = (λ i. told (eR i) (eP i)) ∙ held_own
-
-    pub flags_stored : flags_told R P ≡ wide_flags (call_values c w) ∷ flags_told rs p
-    flags_stored = (λ i. flags_told (eR i) (eP i)) ∙ flags_added (row_made o ss ks c (length us) w) rs p (parts_made ss ks c us w) fits
+  pub over_own : overfull (with_own o (steps_told ss ks) c us (held_of m))
+      ≡ passes (length (held m.rows) + 1) (length (held m.values) + length (call_values c w)) (length (held m.units) + length (call_units c us)) (length (held m.bytes) + (length ks + (length (call_key c) + length (call_data c))))
+  over_own =
+      let R : List PatchRow = row_made o ss ks c (length us) w ∷ newest m.rows in
+      let P : Parts U = plus (parts_of m) (parts_made ss ks c us w) in
+      let s = stored R P refl refl in
+      let n = length-reverse (held m.rows) in
+      let a : length R ≡ length (held m.rows) + 1 = omega arith in
+      let z : length P.bytes ≡ length (held m.bytes) + (length ks + (length (call_key c) + length (call_data c))) = simp length-append refl in
+      sym (ap overfull s.told)
+      ∙ (overfull_told R P s.laid
+      ∙ (λ i. passes (a i) (length-append (held m.values) (call_values c w) i) (length-append (held m.units) (call_units c us) i) (z i)))
 
 -- the answers, by the tests
 module _ {U : Type 0} (o : ObjId) (ss : List StepRow) (ks : List ℕ) (c : Call) (us : List U) (held : List (Patch U)) where

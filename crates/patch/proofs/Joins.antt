@@ -1,21 +1,27 @@
 -- More units for the last patch.
-use Rattle.std.proofs.Common.{◌≡◌, ℕ, ◌+◌, ◌-◌, ◌<◌, ◌≤◌, min, Bool, true, false, ◌||◌, ltb, ◌⊎◌, List, ◌∷◌, ◌++◌, length, take, drop, sym, refl, ap, ◌∙◌, inl, inr, append_assoc, arith, length-append, length-drop, length-take}
-use lib.Seq.{drop-append-add, take-append-add}
+use Rattle.std.proofs.Common.{◌≡◌, ℕ, ◌+◌, ◌-◌, ◌<◌, ◌≤◌, min, true, false, ◌||◌, ltb, ◌⊎◌, List, ◌∷◌, ◌++◌, length, take, drop, sym, refl, ap, ◌∙◌, inl, inr, append_assoc, arith, length-append, length-drop, length-take}
+use Rattle.std.proofs.Math.Seq.{drop-append-add, take-append-add}
+use Rattle.std.proofs.Math.Bool.{or-false}
 use Rattle.std.proofs.lemmas.List.{length-take-le, take_all, drop_all}
-use Rattle.std.proofs.lemmas.Bool.{cases_lt, le-ltb}
+use Rattle.std.proofs.lemmas.Bool.{cases_lt, le-ltb, and_parts, and_from}
+use Rattle.sequence_tree.specs.Sequences.{held}
 use Rattle.sequence_tree.specs.Lists.{spliced}
 use Rattle.patch.specs.declared.rows.ActionRow.{ActionRow}
-use Rattle.patch.specs.declared.rows.ActionRow.TheVariants.{PutMap, PutSeq, Insert, SpliceText, Increment, Conflict, DeleteMap, DeleteSeq}
+use Rattle.patch.specs.declared.rows.ActionRow.TheVariants.{SpliceText}
 use Rattle.patch.specs.declared.rows.PatchRow.{PatchRow}
+use Rattle.patch.specs.declared.memory.PatchMemory.{PatchMemory}
 use Rattle.meaning.specs.Lists.{splice}
+use Rattle.meaning.specs.Patches.{splice_text}
 use Rattle.meaning.specs.Builder.{overfull}
-use Rattle.patch.specs.Rows.{steps_len, values_in, units_in, wides_in, action_len, action_told}
-use Rattle.patch.specs.Told.{Parts, last, front, plus, block, rest, patch_told, told, flags_told, laid, passes}
+use Rattle.patch.specs.Told.{Parts, last, front, block, rest, patch_told, told, wide_flags, flags_told, fits_row, laid, passes}
+use Rattle.patch.specs.Sound.{newest}
+use Rattle.patch.specs.Held.{parts_of, held_of}
 use Rattle.patch.specs.Edits.{change_tail, add_units}
 use Rattle.patch.specs.Tails.{with_action}
-use Rattle.patch.proofs.Tails.{front_last}
-use Rattle.patch.proofs.Tell.{Fits, fits_parts, told_added, flags_added, laid_added, overfull_told}
-use Rattle.patch.proofs.Changes.{tail_laid, tail_told}
+use Rattle.patch.proofs.Tails.{front_last, last_append, front_append}
+use Rattle.patch.proofs.Tell.{fits_parts, fits_from, overfull_told}
+use Rattle.patch.proofs.Bounds.{within}
+use Rattle.patch.proofs.Changes.{Changed}
 
 -- a splice at the place j of the last n, or at the end
 pub splice_min : {X : Type 0} (zs ys : List X) (j n : ℕ) → length zs ≡ n → splice (min j n) 0 ys zs ≡ splice j 0 ys zs
@@ -46,97 +52,80 @@ splice_last xs ys n j p l e =
     ∙ (append_assoc (front n xs) (take (min j n) (last n xs)) (ys ++ drop (min j n + 0) (last n xs))
     ∙ ap (λ w. front n xs ++ w) (splice_min (last n xs) ys j n lz))
 
-or_false : (t : Bool) → t || false ≡ t
-or_false true = refl
-or_false false = refl
-
 -- where the other counts keep within their bounds, that of the units decides
 pub units_decide : (p v u b : ℕ) → p ≤ 4096 → v ≤ 4096 → b ≤ 32768 → passes p v u b ≡ ltb 32768 u
 units_decide p v u b x y z =
-    (λ i. le-ltb 4096 p x i || (le-ltb 4096 v y i || (ltb 32768 u || le-ltb 32768 b z i))) ∙ or_false (ltb 32768 u)
+    (λ i. le-ltb 4096 p x i || (le-ltb 4096 v y i || (ltb 32768 u || le-ltb 32768 b z i))) ∙ or-false (ltb 32768 u)
 
 pub none_passes : (p v u b : ℕ) → p ≤ 4096 → v ≤ 4096 → u ≤ 32768 → b ≤ 32768 → passes p v u b ≡ false
 none_passes p v u b x y w z = units_decide p v u b x y z ∙ le-ltb 32768 u w
 
-module _ {U : Type 0} (R : List PatchRow) (c : Parts U) (shared : laid R c ≡ true) (r : PatchRow) (e : R ≡ r ∷ drop 1 R) where
+abbrev pub more : {U : Type 0} → Parts U → ℕ → List U → Parts U
+more c p us = record { steps = c.steps; values = c.values; units = spliced c.units p 0 us; bytes = c.bytes }
+
+module _ {U : Type 0} (j : ℕ) (us : List U) where
   -- a last patch that is no splice stays
-  pub units_other : ((i n : ℕ) → r.action ≡ SpliceText i n → ⊥) → (j : ℕ) (us : List U) → change_tail (add_units j us) (told R c) ≡ told R c
-  units_other h j us =
-      ap (change_tail (add_units j us)) (tail_told R c shared r e)
-      ∙ (ap (λ x. record { obj = r.obj; path = (patch_told r (block r c)).path; action = x } ∷ told (drop 1 R) (rest r c)) (go r.action h)
-      ∙ sym (tail_told R c shared r e))
+  pub units_other : (R : List PatchRow) (c : Parts U) (r : PatchRow) → R ≡ r ∷ drop 1 R → ((i n : ℕ) → r.action ≡ SpliceText i n → ⊥) → change_tail (add_units j us) (told R c) ≡ told R c
+  units_other R c r e h = ap (λ rs. change_tail (add_units j us) (told rs c)) e ∙ (go r.action h ∙ sym (ap (λ rs. told rs c) e))
     where
-      go : (a : ActionRow) → ((i n : ℕ) → a ≡ SpliceText i n → ⊥) → add_units j us (action_told a (block r c).values (block r c).units (drop (steps_len (block r c).steps) (block r c).bytes)) ≡ action_told a (block r c).values (block r c).units (drop (steps_len (block r c).steps) (block r c).bytes)
-      go (PutMap n v) q = refl
-      go (PutSeq i v) q = refl
-      go (Insert i n w) q = refl
+      go : (a : ActionRow) → ((i n : ℕ) → a ≡ SpliceText i n → ⊥) → change_tail (add_units j us) (told (with_action r a ∷ drop 1 R) c) ≡ told (with_action r a ∷ drop 1 R) c
       go (SpliceText i n) q = absurd (q i n refl)
-      go (Increment p n) q = refl
-      go (Conflict p) q = refl
-      go (DeleteMap n) q = refl
-      go (DeleteSeq i n) q = refl
+      go a q = refl
 
-  module _ (i n j : ℕ) (us : List U) (a : r.action ≡ SpliceText i n) where
-    fits : Fits r (block r c)
-    fits = fits_parts r (block r c) (tail_laid R c shared r e).0
+  module _ (rs : List PatchRow) (c : Parts U) (r : PatchRow) (i n : ℕ) (own : length (last n c.units) ≡ n) (p : ℕ) (at : p ≡ length c.units - n + min j n) where
+    cut : spliced c.units p 0 us ≡ front n c.units ++ splice j 0 us (last n c.units)
+    cut = splice_last c.units us n j p (let l = length-drop (length c.units - n) c.units in omega arith) at
 
-    own : length (block r c).units ≡ n
-    own = fits.units ∙ ap units_in a
+    count : length (splice j 0 us (last n c.units)) ≡ n + length us
+    count = length_splice (last n c.units) us j ∙ ap (λ k. k + length us) own
 
-    pub own_within : n ≤ length c.units
-    own_within = let l = length-drop (length c.units - units_in r.action) c.units in omega (arith, l, fits.units, ap units_in a)
+    newer : last (n + length us) (spliced c.units p 0 us) ≡ splice j 0 us (last n c.units)
+    newer = ap (last (n + length us)) cut ∙ last_append (front n c.units) (splice j 0 us (last n c.units)) (n + length us) count
 
-    abbrev pub longer : PatchRow
-    longer = with_action r (SpliceText i (n + length us))
+    before : front (n + length us) (spliced c.units p 0 us) ≡ front n c.units
+    before = ap (front (n + length us)) cut ∙ front_append (front n c.units) (splice j 0 us (last n c.units)) (n + length us) count
 
-    abbrev pub more : Parts U
-    more = record { steps = (block r c).steps; values = (block r c).values; units = splice j 0 us (block r c).units; bytes = (block r c).bytes }
-
-    count : length (splice j 0 us (block r c).units) ≡ n + length us
-    count = length_splice (block r c).units us j ∙ ap (λ k. k + length us) own
-
-    fits_more : Fits (with_action r (SpliceText i (n + length us))) (record { steps = (block r c).steps; values = (block r c).values; units = splice j 0 us (block r c).units; bytes = (block r c).bytes })
-    fits_more =
+    pub units_joined : laid (with_action r (SpliceText i n) ∷ rs) c ≡ true
+        → Changed (with_action r (SpliceText i n) ∷ rs) (with_action r (SpliceText i (n + length us)) ∷ rs) c (more c p us) (add_units j us)
+    units_joined h =
+        let q : PatchRow = with_action r (SpliceText i n) in
+        let s : PatchRow = with_action r (SpliceText i (n + length us)) in
+        let l = and_parts (fits_row q (block q c)) (laid rs (rest q c)) h in
+        let f = fits_parts q (block q c) l.0 in
+        let b : rest s (more c p us) ≡ rest q c = λ k. record { steps = front r.steps c.steps; values = front 0 c.values; units = before k; bytes = front r.bytes c.bytes } in
         record {
-          steps = fits.steps;
-          values = fits.values ∙ ap values_in a;
-          units = count;
-          bytes = fits.bytes;
-          all = ap (λ m. steps_len (block r c).steps + m) (sym (ap (λ x. action_len x (block r c).values) a)) ∙ fits.all;
-          wide = fits.wide ∙ ap wides_in a;
-          short = fits.short;
+          laid = and_from _ _ (fits_from s (block s (more c p us)) (record { steps = f.steps; values = f.values; units = ap length newer ∙ count; bytes = f.bytes; all = f.all; wide = f.wide; short = f.short })) (ap (laid rs) b ∙ l.1);
+          told = λ k. record { obj = r.obj; path = (patch_told q (block q c)).path; action = splice_text i (newer k) } ∷ told rs (b k);
+          flags = λ k. wide_flags (block q c).values ∷ flags_told rs (b k);
         }
 
-    pub units_laid : laid (longer ∷ drop 1 R) (plus (rest r c) more) ≡ true
-    units_laid = laid_added longer (drop 1 R) (rest r c) more fits_more (tail_laid R c shared r e).1
+module _ {U : Type 0} (m : PatchMemory U) (j : ℕ) (us : List U) (r : PatchRow) (e : newest m.rows ≡ r ∷ drop 1 (newest m.rows)) (i n : ℕ) (a : r.action ≡ SpliceText i n) (p : ℕ) (at : p ≡ length (held m.units) - n + min j n) where
+  splice_last_row : newest m.rows ≡ with_action r (SpliceText i n) ∷ drop 1 (newest m.rows)
+  splice_last_row = e ∙ ap (λ x. with_action r x ∷ drop 1 (newest m.rows)) a
 
-    pub units_told : told (longer ∷ drop 1 R) (plus (rest r c) more) ≡ change_tail (add_units j us) (told R c)
-    units_told =
-        told_added longer (drop 1 R) (rest r c) more fits_more
-        ∙ (ap (λ x. record { obj = r.obj; path = (patch_told r (block r c)).path; action = x } ∷ told (drop 1 R) (rest r c)) (sym (ap (λ x. add_units j us (action_told x (block r c).values (block r c).units (drop (steps_len (block r c).steps) (block r c).bytes))) a))
-        ∙ sym (ap (change_tail (add_units j us)) (tail_told R c shared r e)))
+  -- the last patch, a splice, once it has more units
+  pub joined : (N : List PatchRow) (d : Parts U) → N ≡ with_action r (SpliceText i (n + length us)) ∷ drop 1 (newest m.rows) → d ≡ more (parts_of m) p us
+      → Changed (newest m.rows) N (parts_of m) d (add_units j us)
+  joined N d q z =
+      let R = newest m.rows in
+      let c = parts_of m in
+      let h : laid (with_action r (SpliceText i n) ∷ drop 1 R) c ≡ true = sym (ap (λ rs. laid rs c) splice_last_row) ∙ m.shared in
+      let f = fits_parts (with_action r (SpliceText i n)) (block (with_action r (SpliceText i n)) c) (and_parts (fits_row (with_action r (SpliceText i n)) (block (with_action r (SpliceText i n)) c)) _ h).0 in
+      let w = units_joined j us (drop 1 R) c r i n f.units p at h in
+      record {
+        laid = (λ k. laid (q k) (z k)) ∙ w.laid;
+        told = (λ k. told (q k) (z k)) ∙ (w.told ∙ sym (ap (λ rs. change_tail (add_units j us) (told rs c)) splice_last_row));
+        flags = (λ k. flags_told (q k) (z k)) ∙ (w.flags ∙ sym (ap (λ rs. flags_told rs c) splice_last_row));
+      }
 
-    pub units_flags : flags_told (longer ∷ drop 1 R) (plus (rest r c) more) ≡ flags_told R c
-    units_flags = flags_added longer (drop 1 R) (rest r c) more fits_more ∙ sym (ap (λ rs. flags_told rs c) e)
-
-    pub units_over : length R ≤ 4096 → length c.values ≤ 4096 → length c.bytes ≤ 32768 → overfull (change_tail (add_units j us) (told R c)) ≡ ltb 32768 (length c.units + length us)
-    units_over x y z =
-        let p : length (longer ∷ drop 1 R) ≡ length R = sym (ap length e) in
-        let v : length (plus (rest r c) more).values ≡ length c.values = ap length (front_last (values_in r.action) c.values) in
-        let b : length (plus (rest r c) more).bytes ≡ length c.bytes = ap length (front_last r.bytes c.bytes) in
-        let d = length-append (rest r c).units (splice j 0 us (block r c).units) in
-        let f = ap length (front_last (units_in r.action) c.units) in
-        let g = length-append (rest r c).units (block r c).units in
-        let u : length (plus (rest r c) more).units ≡ length c.units + length us = omega (arith, d, f, g, count, own) in
-        sym (ap overfull units_told)
-        ∙ (overfull_told (longer ∷ drop 1 R) (plus (rest r c) more) units_laid
-        ∙ ((λ k. passes (p k) (v k) (u k) (b k))
-        ∙ units_decide (length R) (length c.values) (length c.units + length us) (length c.bytes) x y z))
-
-    -- the memory once they are stored
-    pub units_stored : (zs : List U) (p : ℕ) → p ≡ length c.units - n + min j n → zs ≡ spliced c.units p 0 us
-        → record { steps = c.steps; values = c.values; units = zs; bytes = c.bytes } ≡ plus (rest r c) more
-    units_stored zs p h q =
-        let u : zs ≡ (rest r c).units ++ splice j 0 us (block r c).units =
-        q ∙ (splice_last c.units us n j p own_within h ∙ ap (λ k. front k c.units ++ splice j 0 us (last k c.units)) (sym (ap units_in a))) in
-        λ k. record { steps = sym (front_last r.steps c.steps) k; values = sym (front_last (values_in r.action) c.values) k; units = u k; bytes = sym (front_last r.bytes c.bytes) k }
+  -- the count of units decides if they are too many
+  pub joined_over : overfull (change_tail (add_units j us) (held_of m)) ≡ ltb 32768 (length (held m.units) + length us)
+  joined_over =
+      let N : List PatchRow = with_action r (SpliceText i (n + length us)) ∷ drop 1 (newest m.rows) in
+      let w = joined N (more (parts_of m) p us) refl refl in
+      let k = ap length e in
+      let b = within m in
+      sym (ap overfull w.told)
+      ∙ (overfull_told N (more (parts_of m) p us) w.laid
+      ∙ (ap (λ u. passes (length N) (length (held m.values)) u (length (held m.bytes))) (length_splice (held m.units) us p)
+      ∙ units_decide (length N) (length (held m.values)) (length (held m.units) + length us) (length (held m.bytes)) (omega (arith, k, b.newest)) b.values b.bytes))

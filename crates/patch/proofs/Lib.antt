@@ -1,4 +1,5 @@
 pub mod Tails
+pub mod Bounds
 pub mod Tell
 pub mod Own
 pub mod Forward

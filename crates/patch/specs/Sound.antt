@@ -1,7 +1,7 @@
 -- When the memory of patches is in order.
-use Rattle.std.specs.Prelude.{ℕ, ◌≤◌, List, reverse, length}
-use Rattle.sequence_tree.specs.declared.raw.Raw.{Raw}
-use Rattle.sequence_tree.specs.Places.{Fits, items, room}
+use Rattle.std.specs.Prelude.{◌≡◌, ℕ, List, reverse}
+use Rattle.sequence_tree.specs.declared.sequence.Sequence.{Sequence}
+use Rattle.sequence_tree.specs.Sequences.{held, capacity}
 use Rattle.types.specs.Limits.{limits}
 use Rattle.patch.specs.declared.rows.StepRow.{StepRow}
 use Rattle.patch.specs.declared.rows.ValueRow.{ValueRow}
@@ -9,24 +9,16 @@ use Rattle.patch.specs.declared.rows.PatchRow.{PatchRow}
 use Rattle.patch.specs.Told.{Parts}
 
 -- The rows, newest first.
-abbrev pub newest : Raw PatchRow → List PatchRow
-newest rows = reverse (items rows)
+abbrev pub newest : Sequence PatchRow → List PatchRow
+newest rows = reverse (held rows)
 
-abbrev pub parts_in : {U : Type 0} → Raw StepRow → Raw ValueRow → Raw U → Raw ℕ → Parts U
-parts_in ss vs us bs = record { steps = items ss; values = items vs; units = items us; bytes = items bs }
+abbrev pub parts_in : {U : Type 0} → Sequence StepRow → Sequence ValueRow → Sequence U → Sequence ℕ → Parts U
+parts_in ss vs us bs = record { steps = held ss; values = held vs; units = held us; bytes = held bs }
 
--- What is in use lies within the places that there are.
-abbrev pub Placed : {U : Type 0} → Raw PatchRow → Raw StepRow → Raw ValueRow → Raw U → Raw ℕ → Type 0
-Placed rs ss vs us bs = Fits rs × Fits ss × Fits vs × Fits us × Fits bs
-
--- There are as many places as the bounds ask.
-abbrev pub Roomy : {U : Type 0} → Raw PatchRow → Raw StepRow → Raw ValueRow → Raw U → Raw ℕ → Type 0
-Roomy rs ss vs us bs =
-    (limits.builder_patches ≤ room rs) × (65536 ≤ room ss) × (limits.builder_values ≤ room vs)
-    × (limits.builder_units ≤ room us) × (limits.builder_bytes ≤ room bs)
-
--- No more of each is in use than the bounds allow.
-abbrev pub Within : {U : Type 0} → Raw PatchRow → Raw ValueRow → Raw U → Raw ℕ → Type 0
-Within rs vs us bs =
-    (length (items rs) ≤ limits.builder_patches) × (length (items vs) ≤ limits.builder_values)
-    × (length (items us) ≤ limits.builder_units) × (length (items bs) ≤ limits.builder_bytes)
+-- There are as many places as the bounds allow, so that no more can be in use.
+pub record Sized {U : Type 0} (rs : Sequence PatchRow) (ss : Sequence StepRow) (vs : Sequence ValueRow) (us : Sequence U) (bs : Sequence ℕ) : Type 0 where
+  pub rows : capacity rs ≡ limits.builder_patches
+  pub steps : capacity ss ≡ 65536
+  pub values : capacity vs ≡ limits.builder_values
+  pub units : capacity us ≡ limits.builder_units
+  pub bytes : capacity bs ≡ limits.builder_bytes

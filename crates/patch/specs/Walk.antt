@@ -1,6 +1,6 @@
 -- Reading patches one after the other.
 use Rattle.std.specs.Prelude.{◌≡◌, List, [], ◌∷◌, drop, Some, None, Option}
-use Rattle.sequence_tree.specs.Places.{items}
+use Rattle.sequence_tree.specs.Sequences.{held}
 use Rattle.patch.specs.declared.view.PatchView.{PatchView}
 use Rattle.patch.specs.declared.view.Cursor.{Cursor}
 use Rattle.patch.specs.declared.memory.PatchMemory.{PatchMemory}
@@ -14,7 +14,7 @@ module _ {U : Type 0} where
 
   -- The patches from a place on, oldest first.
   abbrev pub rest_at : PatchMemory U → Cursor → List (Patch U)
-  rest_at m k = told_forward (drop k.row (items m.rows)) (record { steps = drop k.step (items m.steps); values = drop k.value (items m.values); units = drop k.unit (items m.units); bytes = drop k.byte (items m.bytes) })
+  rest_at m k = told_forward (drop k.row (held m.rows)) (record { steps = drop k.step (held m.steps); values = drop k.value (held m.values); units = drop k.unit (held m.units); bytes = drop k.byte (held m.bytes) })
 
   -- One more is read: none where none is left, else the first of them, and the place of the others.
   abbrev pub Walked : PatchMemory U → Cursor → Option (PatchView U × Cursor) → Type 0

@@ -2,7 +2,6 @@
 #![tactic(auto)]
 
 pub mod batch;
-mod ends;
 mod making;
 pub mod memory;
 pub mod path;

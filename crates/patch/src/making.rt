@@ -1,14 +1,13 @@
 // The row of a call, and what of the call lies behind it.
 ghost use Rattle.std.specs.Prelude.{◌≡◌, ℕ, ◌+◌, ◌≤◌, Bool, false, ◌++◌, length};
 ghost use Rattle.meaning.specs.Calls.{put_call};
-ghost use Rattle.sequence_tree.specs.Places.{Fits, items, room};
+ghost use Rattle.sequence_tree.specs.Sequences.{held, capacity};
 ghost use Rattle.patch_call.specs.Seen.{prop_seen, scalar_seen, content_seen, entry_seen, call_seen};
 ghost use Rattle.patch.specs.Made.{prop_row, scalar_row, content_row, value_row, action_row, call_values, call_units};
 
-use crate::ends::extend;
 use crate::rows::{ActionRow, ContentRow, PropRow, ScalarRow, ValueRow};
 use patch_call::call::{Call, Entry};
-use sequence_tree::raw::Raw;
+use sequence_tree::sequence::Sequence;
 use types::value::{Prop, ScalarValue, Value};
 
 fn prop_row(p: Prop) -> PropRow
@@ -71,7 +70,7 @@ pub fn action_row(call: Call, units: usize, wide: bool) -> ActionRow
 {
     match call {
         Call::Put(p, e) => put_row(p, e),
-        Call::Insert(i, _) => ActionRow::Insert(i, 1, if wide { 1 } else { 0 }),
+        Call::Insert(i, _) => ActionRow::Insert(i, 1, usize::from(wide)),
         Call::DeleteSeq(i, n) => ActionRow::DeleteSeq(i, n),
         Call::DeleteMap(key) => ActionRow::DeleteMap(key.len()),
         Call::Increment(p, by, _) => ActionRow::Increment(prop_row(p), by),
@@ -84,15 +83,7 @@ pub fn action_row(call: Call, units: usize, wide: bool) -> ActionRow
 pub fn value_count(call: Call) -> usize
     ensures { (w : Bool) → result ≡ length (call_values (call_seen call.entry) w) }
 {
-    match call {
-        Call::Put(_, _) => 0,
-        Call::Insert(_, _) => 1,
-        Call::DeleteSeq(_, _) => 0,
-        Call::DeleteMap(_) => 0,
-        Call::Increment(_, _, _) => 0,
-        Call::FlagConflict(_) => 0,
-        Call::SpliceText(_, _) => 0,
-    }
+    usize::from(matches!(call, Call::Insert(..)))
 }
 
 // The units that a splice brings; another call has none.
@@ -100,25 +91,18 @@ pub fn own_units<'u, U>(call: Call, units: &'u [U]) -> &'u [U]
     ensures { result.now ≡ call_units (call_seen call.entry) units.now }
 {
     match call {
-        Call::Put(_, _) => &units[0..0],
-        Call::Insert(_, _) => &units[0..0],
-        Call::DeleteSeq(_, _) => &units[0..0],
-        Call::DeleteMap(_) => &units[0..0],
-        Call::Increment(_, _, _) => &units[0..0],
-        Call::FlagConflict(_) => &units[0..0],
-        Call::SpliceText(_, _) => units,
+        Call::SpliceText(..) => units,
+        _ => &[],
     }
 }
 
 // The value that an insert brings comes after the last.
-pub fn add_value(values: &mut Raw<ValueRow>, call: Call, wide: bool)
-    requires fits { Fits values.old }
-    requires room { length (items values.old) + length (call_values (call_seen call) wide) ≤ room values.old }
-    ensures fits { Fits values.new }
-    ensures items { items values.new ≡ items values.old ++ call_values (call_seen call.entry) wide }
-    ensures room { room values.new ≡ room values.old }
+pub fn add_value(values: &mut Sequence<ValueRow>, call: Call, wide: bool)
+    requires { length (held values.old) + length (call_values (call_seen call) wide) ≤ capacity values.old }
+    ensures held { held values.new ≡ held values.old ++ call_values (call_seen call.entry) wide }
+    ensures capacity { capacity values.new ≡ capacity values.old }
 {
     if let Call::Insert(_, e) = call {
-        extend(values, &[value_row(e, wide)]);
+        values.extend(&[value_row(e, wide)]);
     }
 }

@@ -1,9 +1,9 @@
 ghost use Rattle.std.specs.Prelude.{◌≡◌, true};
 ghost use Rattle.patch.specs.Told.{laid};
-ghost use Rattle.patch.specs.Sound.{newest, parts_in, Placed, Roomy, Within};
+ghost use Rattle.patch.specs.Sound.{newest, parts_in, Sized};
 
 use crate::rows::{PatchRow, StepRow, ValueRow};
-use sequence_tree::raw::Raw;
+use sequence_tree::sequence::Sequence;
 
 mod append;
 mod join;
@@ -16,13 +16,11 @@ mod take;
 // a change of the last patch moves nothing else.
 #[derive(Drop)]
 pub struct PatchMemory<'m, U> {
-    rows: Raw<'m, PatchRow>,
-    steps: Raw<'m, StepRow>,
-    values: Raw<'m, ValueRow>,
-    units: Raw<'m, U>,
-    bytes: Raw<'m, u8>,
-    ghost placed: { Placed rows steps values units bytes },
-    ghost roomy: { Roomy rows steps values units bytes },
-    ghost few: { Within rows values units bytes },
+    rows: Sequence<'m, PatchRow>,
+    steps: Sequence<'m, StepRow>,
+    values: Sequence<'m, ValueRow>,
+    units: Sequence<'m, U>,
+    bytes: Sequence<'m, u8>,
+    ghost sized: { Sized rows steps values units bytes },
     ghost shared: { laid (newest rows) (parts_in steps values units bytes) ≡ true },
 }

@@ -26,21 +26,13 @@ impl<'m, U: Copy> PatchMemory<'m, U> {
         let ActionRow::SpliceText(i, n) = row.action else {
             return Ok(());
         };
-        if exceeds(BUILDER_UNITS, self.units.len, units.len()) {
+        if exceeds(BUILDER_UNITS, self.units.len(), units.len()) {
             return Err(Refusal::Full);
         }
-        let at = self.units.len - n + j.min(n);
-        self.units.splice(at, 0, units);
+        let at = self.units.len() - n + j.min(n);
+        self.units.replace(at, 0, units);
         let action = ActionRow::SpliceText(i, n + units.len());
-        set_tail(
-            &mut self.rows,
-            PatchRow {
-                obj: row.obj,
-                steps: row.steps,
-                bytes: row.bytes,
-                action,
-            },
-        );
+        set_tail(&mut self.rows, PatchRow { action, ..row });
         Ok(())
     }
 }

@@ -1,8 +1,7 @@
 // Changes of the last patch, in place.
-ghost use Rattle.std.specs.Prelude.{◌≡◌, ◌-◌, ◌<◌, ◌∷◌, drop, is_ok, if◌then◌else◌, None, nat_eq};
-ghost use Rattle.std.specs.List.{slice_get};
+ghost use Rattle.std.specs.Prelude.{◌≡◌, ◌<◌, ◌∷◌, length, drop, is_ok, if◌then◌else◌};
 ghost use Rattle.types.specs.declared.error.Refusal.TheVariants.{DeletionLength};
-ghost use Rattle.sequence_tree.specs.Places.{Fits, items, room};
+ghost use Rattle.sequence_tree.specs.Sequences.{held, capacity};
 ghost use Rattle.meaning.specs.Results.{provided};
 ghost use Rattle.patch.specs.Sound.{newest};
 ghost use Rattle.patch.specs.Held.{held_of, flags_of};
@@ -11,69 +10,53 @@ ghost use Rattle.patch.specs.Tails.{TailIs, TailHeld, flag_value, flag_row, fits
 
 use super::PatchMemory;
 use crate::rows::{ActionRow, PatchRow, ValueRow};
-use sequence_tree::raw::Raw;
+use sequence_tree::sequence::Sequence;
 use types::bounds::DELETION_LENGTH;
 use types::error::Refusal;
 
-// The last row; none where there is none.
-fn last_row(rows: &Raw<PatchRow>) -> Option<PatchRow>
-    requires { Fits rows.now }
-    ensures { result ≡ (if nat_eq rows.now.len 0 then None else slice_get (items rows.now) (rows.now.len - 1)) }
-{
-    let n = rows.len;
-    if n == 0 {
-        return None;
-    }
-    rows.get(n - 1)
-}
-
 // The last row gives way to another.
-pub fn set_tail(rows: &mut Raw<PatchRow>, row: PatchRow)
-    requires { (Fits rows.old) × (0 < rows.old.len) }
-    ensures fits { Fits rows.new }
-    ensures items { newest rows.new ≡ row ∷ drop 1 (newest rows.old) }
-    ensures room { room rows.new ≡ room rows.old }
+pub fn set_tail(rows: &mut Sequence<PatchRow>, row: PatchRow)
+    requires { 0 < length (held rows.old) }
+    ensures newest { newest rows.new ≡ row ∷ drop 1 (newest rows.old) }
+    ensures capacity { capacity rows.new ≡ capacity rows.old }
 {
-    let n = rows.len;
-    rows.splice(n - 1, 1, &[row]);
+    rows.replace(rows.len() - 1, 1, &[row]);
 }
 
-fn flagged(v: ValueRow) -> ValueRow
-    ensures { result ≡ flag_value v }
-{
-    ValueRow {
-        content: v.content,
-        id: v.id,
-        conflict: true,
-        wide: v.wide,
-    }
-}
-
-fn flag_row(action: ActionRow) -> ActionRow
-    ensures { result ≡ flag_row action }
-{
-    match action {
-        ActionRow::PutMap(n, v) => ActionRow::PutMap(n, flagged(v)),
-        ActionRow::PutSeq(i, v) => ActionRow::PutSeq(i, flagged(v)),
-        _ => action,
-    }
-}
-
-// A deletion's row that takes m more, where that keeps within its bounds.
-fn lengthen_row(action: ActionRow, m: usize) -> Option<ActionRow>
-    ensures { result ≡ fits_length action m }
-{
-    match action {
-        ActionRow::DeleteSeq(i, n) => {
-            if m > DELETION_LENGTH || n > DELETION_LENGTH - m {
-                return None;
-            }
-            if n + m == 0 {
-                return None;
-            }
-            Some(ActionRow::DeleteSeq(i, n + m))
+impl ValueRow {
+    fn flagged(self) -> ValueRow
+        ensures { result ≡ flag_value self }
+    {
+        ValueRow {
+            conflict: true,
+            ..self
         }
-        _ => Some(action),
+    }
+}
+
+impl ActionRow {
+    fn flagged(self) -> ActionRow
+        ensures { result ≡ flag_row self }
+    {
+        match self {
+            ActionRow::PutMap(n, v) => ActionRow::PutMap(n, v.flagged()),
+            ActionRow::PutSeq(i, v) => ActionRow::PutSeq(i, v.flagged()),
+            _ => self,
+        }
+    }
+
+    // A deletion takes m more, where that keeps within its bounds; another row stays.
+    fn lengthened(self, m: usize) -> Option<ActionRow>
+        ensures { result ≡ fits_length self m }
+    {
+        let ActionRow::DeleteSeq(i, n) = self else {
+            return Some(self);
+        };
+        let length = n.checked_add(m)?;
+        if length == 0 || length > DELETION_LENGTH {
+            return None;
+        }
+        Some(ActionRow::DeleteSeq(i, length))
     }
 }
 
@@ -83,7 +66,7 @@ impl<'m, U: Copy> PatchMemory<'m, U> {
         ensures row { TailIs (newest self.now.rows) result }
         ensures held { TailHeld self.now result }
     {
-        last_row(&self.rows)
+        self.rows.as_slice().last().copied()
     }
 
     // Sets the conflict flag of the last patch, where it is a put.
@@ -94,16 +77,8 @@ impl<'m, U: Copy> PatchMemory<'m, U> {
         let Some(row) = self.tail() else {
             return;
         };
-        let action = flag_row(row.action);
-        set_tail(
-            &mut self.rows,
-            PatchRow {
-                obj: row.obj,
-                steps: row.steps,
-                bytes: row.bytes,
-                action,
-            },
-        );
+        let action = row.action.flagged();
+        set_tail(&mut self.rows, PatchRow { action, ..row });
     }
 
     // The last patch takes m elements more, where it is a deletion.
@@ -115,18 +90,10 @@ impl<'m, U: Copy> PatchMemory<'m, U> {
         let Some(row) = self.tail() else {
             return Ok(());
         };
-        let Some(action) = lengthen_row(row.action, m) else {
+        let Some(action) = row.action.lengthened(m) else {
             return Err(Refusal::DeletionLength);
         };
-        set_tail(
-            &mut self.rows,
-            PatchRow {
-                obj: row.obj,
-                steps: row.steps,
-                bytes: row.bytes,
-                action,
-            },
-        );
+        set_tail(&mut self.rows, PatchRow { action, ..row });
         Ok(())
     }
 }

@@ -1,5 +1,4 @@
-ghost use Rattle.std.specs.Prelude.{◌≡◌, [], length};
-ghost use Rattle.sequence_tree.specs.Places.{items};
+ghost use Rattle.std.specs.Prelude.{◌≡◌, []};
 ghost use Rattle.meaning.specs.Builder.{load};
 ghost use Rattle.patch.specs.Held.{held_of, flags_of};
 ghost use Rattle.patch.specs.Taken.{load_told};
@@ -8,25 +7,18 @@ use super::PatchMemory;
 use crate::batch::Batch;
 
 impl<'m, U: Copy> PatchMemory<'m, U> {
-    // How many rows, values, units and bytes are in use.
-    fn used(&self) -> Batch
-        ensures { result ≡ record { patches = length (items self.now.rows); values = length (items self.now.values); units = length (items self.now.units); bytes = length (items self.now.bytes) } }
-    {
-        Batch {
-            patches: self.rows.len,
-            values: self.values.len,
-            units: self.units.len,
-            bytes: self.bytes.len,
-        }
-    }
-
     // The receipt for what is held, which stays until the receipt is spent.
     pub fn take(&mut self) -> Batch
         ensures counts { load_told result ≡ load (held_of self.old) }
         ensures held { held_of self.new ≡ held_of self.old }
         ensures wide { flags_of self.new ≡ flags_of self.old }
     {
-        self.used()
+        Batch {
+            patches: self.rows.len(),
+            values: self.values.len(),
+            units: self.units.len(),
+            bytes: self.bytes.len(),
+        }
     }
 
     // No patch is held any more.

@@ -1,55 +1,39 @@
-use Rattle.std.proofs.Common.{◌≡◌, ◌∷◌, length, drop, sym, ap, ◌∙◌, arith}
-use Rattle.std.proofs.lemmas.List.{length-reverse, length-take-le}
-use Rattle.sequence_tree.specs.Places.{items}
-use Rattle.meaning.specs.Results.{provided}
+use Rattle.std.proofs.Common.{◌∷◌, length, drop, sym, ap, ◌∙◌, arith}
+use Rattle.std.proofs.lemmas.List.{length-reverse}
+use Rattle.sequence_tree.specs.Sequences.{held}
 use Rattle.types.specs.declared.error.Refusal.TheVariants.{DeletionLength}
-use Rattle.patch.specs.Rows.{steps_len}
-use Rattle.patch.specs.Told.{block, told, flags_told, laid}
+use Rattle.meaning.specs.Results.{provided}
 use Rattle.patch.specs.Edits.{lengthen, length_fits, of_tail}
-use Rattle.patch.specs.Tails.{lengthen_row, with_action}
+use Rattle.patch.specs.Tails.{with_action}
+use Rattle.patch.specs.Told.{told}
 use Rattle.patch.specs.Sound.{newest}
 use Rattle.patch.specs.Held.{parts_of}
-use Rattle.patch.proofs.Changes.{row_laid, row_told, row_flags, tail_told, length_counts, length_told, length_some}
+use Rattle.patch.proofs.Changes.{Changed, changed, length_retold, length_some, length_none}
 use Rattle.patch.proofs.memory.PatchMemory.join_delete.Goals as goal
+use Rattle.patch.proofs.memory.PatchMemory.join_delete.Goals.{After-set_tail}
 
 pub set_tail-requires : goal.set_tail-requires
-set_tail-requires g c =
-    let m = c.args.self.now in
-    let l = ap length c.in-Some.ensures.row in
-    let k = length-reverse (items m.rows) in
-    let n = length-take-le m.rows.len m.rows.places.now m.placed.0 in
-    (m.placed.0, omega (arith, l, k, n))
+set_tail-requires g c = omega (arith, ap length c.in-Some.ensures.row, length-reverse (held c.args.self.now.rows))
 
-pub invariant_of-self : goal.invariant_of-self
-invariant_of-self g c =
+longer : (g : _) (c : After-set_tail g) → Changed (newest c.args.self.now.rows) (newest c.set_tail.new.rows) (parts_of c.args.self.now) (parts_of c.args.self.now) (lengthen c.args.m)
+longer g c =
     let m = c.args.self.now in
     let r = c.in-Some.row in
-    let e = c.in-Some.ensures.row in
-    let b = block r (parts_of m) in
-    let f = length_some c.args.m b.values b.units (drop (steps_len b.steps) b.bytes) r.action c.in-Some-lengthen_row.action (sym c.in-Some-lengthen_row.is ∙ c.lengthen_row.ensures) in
-    let eR : newest c.set_tail.new.rows ≡ with_action r (lengthen_row c.args.m r.action) ∷ drop 1 (newest m.rows) = c.set_tail.ensures.items ∙ ap (λ a. with_action r a ∷ drop 1 (newest m.rows)) f.0 in
-    let l = ap length e in
-    let p = ap length c.set_tail.ensures.items in
-    let k = length-reverse (items m.rows) in
-    let q = length-reverse (items c.set_tail.new.rows) in
-    record {
-      placed = (c.set_tail.ensures.fits, m.placed.1, m.placed.2, m.placed.3, m.placed.4);
-      roomy = (omega (arith, m.roomy.0, c.set_tail.ensures.room), m.roomy.1, m.roomy.2, m.roomy.3, m.roomy.4);
-      few = (omega (arith, m.few.0, l, p, k, q), m.few.1, m.few.2, m.few.3);
-      shared = ap (λ rs. laid rs (parts_of m)) eR ∙ row_laid (newest m.rows) (parts_of m) m.shared r e (lengthen_row c.args.m r.action) (lengthen c.args.m) (length_counts c.args.m r.action).0 (length_counts c.args.m r.action).1 (length_counts c.args.m r.action).2 (length_counts c.args.m r.action).3 (length_told c.args.m r.action);
-    }
+    let f = length_some (drop 1 (newest m.rows)) (parts_of m) c.args.m r c.in-Some-lengthened.action (sym c.in-Some-lengthened.is ∙ c.lengthened.ensures) in
+    changed (newest m.rows) (newest c.set_tail.new.rows) (parts_of m) _ r (lengthen c.args.m) m.shared c.in-Some.ensures.row
+    (c.set_tail.ensures.newest ∙ ap (λ a. with_action r a ∷ drop 1 (newest m.rows)) f.0)
+    (length_retold (drop 1 (newest m.rows)) (parts_of m) c.args.m r)
+
+pub invariant_of-self-clause-shared : goal.invariant_of-self-clause-shared
+invariant_of-self-clause-shared g c = (longer g c).laid
 
 pub returns : goal.returns
 returns g c =
     let m = c.args.self.now in
-    let r = c.in-Some.row in
-    let e = c.in-Some.ensures.row in
-    let b = block r (parts_of m) in
-    let f = length_some c.args.m b.values b.units (drop (steps_len b.steps) b.bytes) r.action c.in-Some-lengthen_row.action (sym c.in-Some-lengthen_row.is ∙ c.lengthen_row.ensures) in
-    let eR : newest c.set_tail.new.rows ≡ with_action r (lengthen_row c.args.m r.action) ∷ drop 1 (newest m.rows) = c.set_tail.ensures.items ∙ ap (λ a. with_action r a ∷ drop 1 (newest m.rows)) f.0 in
-    let h = tail_told (newest m.rows) (parts_of m) m.shared r e in
+    let f = length_some (drop 1 (newest m.rows)) (parts_of m) c.args.m c.in-Some.row c.in-Some-lengthened.action (sym c.in-Some-lengthened.is ∙ c.lengthened.ensures) in
+    let w = longer g (goal.at.returns g c).After-set_tail in
     record {
-      answer = sym (ap (λ t. provided t DeletionLength tt) (ap (of_tail (length_fits c.args.m)) h ∙ f.1));
-      held = ap (λ rs. told rs (parts_of m)) eR ∙ row_told (newest m.rows) (parts_of m) m.shared r e (lengthen_row c.args.m r.action) (lengthen c.args.m) (length_counts c.args.m r.action).0 (length_counts c.args.m r.action).1 (length_counts c.args.m r.action).2 (length_counts c.args.m r.action).3 (length_told c.args.m r.action);
-      wide = ap (λ rs. flags_told rs (parts_of m)) eR ∙ row_flags (newest m.rows) (parts_of m) m.shared r e (lengthen_row c.args.m r.action) (lengthen c.args.m) (length_counts c.args.m r.action).0 (length_counts c.args.m r.action).1 (length_counts c.args.m r.action).2 (length_counts c.args.m r.action).3 (length_told c.args.m r.action);
+      answer = sym (ap (λ t. provided t DeletionLength tt) (ap (λ rs. of_tail (length_fits c.args.m) (told rs (parts_of m))) c.in-Some.ensures.row ∙ f.1));
+      held = w.told;
+      wide = w.flags;
     }
