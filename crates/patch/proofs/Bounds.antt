@@ -12,7 +12,7 @@ use Rattle.patch.specs.Held.{parts_of}
 use Rattle.patch.proofs.Tell.{steps_few}
 
 held_within : {X : Type 0} (s : Sequence X) → length (held s) ≤ capacity s
-held_within s = let l = length-take s.raw.len s.raw.places.now in omega arith
+held_within s = let l = length-take s.len s.places.now in omega arith
 
 pub record Within {U : Type 0} (m : PatchMemory U) : Type 0 where
   pub rows : length (held m.rows) ≤ 4096

@@ -5,8 +5,8 @@ use Rattle.std.proofs.lemmas.List.{reverse-append}
 use Rattle.std.proofs.lemmas.Bool.{and_parts, and_from, or_parts, not-false, not_from_false, eqb-true, leb-true, le-leb, le-ltb}
 use Rattle.types.specs.declared.types.ObjId.{ObjId}
 use Rattle.types.specs.declared.error.Refusal.{Refusal}
-use Rattle.patch.specs.declared.rows.PropRow.{PropRow}
-use Rattle.patch.specs.declared.rows.PropRow.TheVariants.{Key, Index}
+use Rattle.types.specs.declared.value.PropOf.{PropOf}
+use Rattle.types.specs.declared.value.PropOf.TheVariants.{Map, Seq}
 use Rattle.patch.specs.declared.rows.StepRow.{StepRow}
 use Rattle.meaning.specs.Results.{first_of}
 use Rattle.meaning.specs.Lists.{Every}
@@ -93,9 +93,9 @@ short_told (s ∷ ss) bs h =
     let q = and_parts (leb (prop_len s.prop) 64) (short_rows ss) h in
     and_from _ _ (step s.prop (leb-true _ _ q.0)) (short_told ss (drop (prop_len s.prop) bs) q.1)
   where
-    step : (p : PropRow) → prop_len p ≤ 64 → not (long_prop (prop_told p bs)) ≡ true
-    step (Key n) l = not_from_false _ (le-ltb 64 (length (take n bs)) (let z = length-take n bs in omega arith))
-    step (Index i) l = refl
+    step : (p : PropOf ℕ) → prop_len p ≤ 64 → not (long_prop (prop_told p bs)) ≡ true
+    step (Map n) l = not_from_false _ (le-ltb 64 (length (take n bs)) (let z = length-take n bs in omega arith))
+    step (Seq i) l = refl
 
 -- a call that is not refused by itself
 none_fits : (xs : List (Bool × Refusal)) → first_of xs ≡ none → Every (λ (x : Bool × Refusal). x.0 ≡ false) xs

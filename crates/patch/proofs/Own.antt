@@ -2,8 +2,8 @@
 use Rattle.std.proofs.Common.{◌≡◌, ℕ, ◌+◌, ◌≤◌, Bool, false, List, [], ◌∷◌, ◌++◌, length, drop, sym, refl, ap, ◌∙◌, arith, length-append, length-drop}
 use Rattle.std.proofs.lemmas.List.{take-append-le, drop-append-le, take_at, drop_at, take_all}
 use Rattle.types.specs.declared.types.ObjId.{ObjId}
-use Rattle.patch.specs.declared.rows.PropRow.{PropRow}
-use Rattle.patch.specs.declared.rows.PropRow.TheVariants.{Key, Index}
+use Rattle.types.specs.declared.value.PropOf.{PropOf}
+use Rattle.types.specs.declared.value.PropOf.TheVariants.{Map, Seq}
 use Rattle.patch.specs.declared.rows.StepRow.{StepRow}
 use Rattle.meaning.specs.Entries.{Scalar, null, boolean, int, uint, timestamp, counter, str, bytes, Content, scalar_of, object_of, Entry}
 use Rattle.meaning.specs.Patches.{Prop, key, pos, put_map, put_seq, insert, increment, conflict, delete_map}
@@ -25,9 +25,9 @@ steps_own (s ∷ ss) ks xs h =
     ap (steps_told ss) e ∙ steps_own ss (drop (prop_len s.prop) ks) xs (omega arith) in
     λ i. record { leaves = s.leaves; prop = a i } ∷ b i
   where
-    step : (p : PropRow) → prop_len p ≤ length ks → prop_told p (ks ++ xs) ≡ prop_told p ks
-    step (Key n) l = ap key (take-append-le n ks xs l)
-    step (Index i) l = refl
+    step : (p : PropOf ℕ) → prop_len p ≤ length ks → prop_told p (ks ++ xs) ≡ prop_told p ks
+    step (Map n) l = ap key (take-append-le n ks xs l)
+    step (Seq i) l = refl
 
 prop_own : (p : Prop) → prop_told (prop_row p) (prop_key p ++ []) ≡ p
 prop_own (key k) = ap key (take_at k [] (length k) refl)

@@ -2,13 +2,13 @@
 use Rattle.std.proofs.Common.{◌≡◌, ℕ, suc, ◌+◌, ◌-◌, ◌*◌, ◌≤◌, true, List, [], ◌∷◌, length, take, drop, sym, refl, ap, ◌∙◌, arith, length-append, length-drop}
 use Rattle.std.proofs.lemmas.List.{length-take-le}
 use Rattle.std.proofs.lemmas.Bool.{and_parts, and_from, eqb-true, eq-eqb, leb-true, le-leb}
-use Rattle.patch.specs.declared.rows.PropRow.{PropRow}
-use Rattle.patch.specs.declared.rows.PropRow.TheVariants.{Key, Index}
+use Rattle.types.specs.declared.value.PropOf.{PropOf}
+use Rattle.types.specs.declared.value.PropOf.TheVariants.{Map, Seq}
 use Rattle.patch.specs.declared.rows.StepRow.{StepRow}
-use Rattle.patch.specs.declared.rows.ScalarRow.{ScalarRow}
-use Rattle.patch.specs.declared.rows.ScalarRow.TheVariants.{Null, Boolean, Int, Uint, Timestamp, Counter, Str, Bytes}
-use Rattle.patch.specs.declared.rows.ContentRow.{ContentRow}
-use Rattle.patch.specs.declared.rows.ContentRow.TheVariants.{Object, Scalar as Plain}
+use Rattle.types.specs.declared.value.ScalarOf.{ScalarOf}
+use Rattle.types.specs.declared.value.ScalarOf.TheVariants.{Null, Boolean, Int, Uint, Timestamp, Counter, Str, Bytes}
+use Rattle.types.specs.declared.value.ValueOf.{ValueOf}
+use Rattle.types.specs.declared.value.ValueOf.TheVariants.{Object, Scalar as Plain}
 use Rattle.patch.specs.declared.rows.ValueRow.{ValueRow}
 use Rattle.patch.specs.declared.rows.ActionRow.{ActionRow}
 use Rattle.patch.specs.declared.rows.ActionRow.TheVariants.{PutMap, PutSeq, Insert, SpliceText, Increment, Conflict, DeleteMap, DeleteSeq}
@@ -20,9 +20,9 @@ use Rattle.patch.specs.Told.{Parts, plus, block, rest, patch_told, told, wide_fl
 use Rattle.patch.proofs.Tails.{last_append, front_append, front_last}
 
 -- keys and strings are within what there is
-prop_bytes_lem : (p : PropRow) (bs : List ℕ) → prop_len p ≤ length bs → prop_bytes (prop_told p bs) ≡ prop_len p
-prop_bytes_lem (Key n) bs h = length-take-le n bs h
-prop_bytes_lem (Index i) bs h = refl
+prop_bytes_lem : (p : PropOf ℕ) (bs : List ℕ) → prop_len p ≤ length bs → prop_bytes (prop_told p bs) ≡ prop_len p
+prop_bytes_lem (Map n) bs h = length-take-le n bs h
+prop_bytes_lem (Seq i) bs h = refl
 
 path_bytes : (ss : List StepRow) (bs : List ℕ) → steps_len ss ≤ length bs → bytes_of_path (steps_told ss bs) ≡ steps_len ss
 path_bytes [] bs h = refl
@@ -32,7 +32,7 @@ path_bytes (s ∷ ss) bs h =
     let b : bytes_of_path (steps_told ss (drop (prop_len s.prop) bs)) ≡ steps_len ss = path_bytes ss (drop (prop_len s.prop) bs) (omega arith) in
     (λ i. a i + b i)
 
-scalar_bytes_lem : (s : ScalarRow) (bs : List ℕ) → scalar_len s ≤ length bs → bytes_of_scalar (scalar_told s bs) ≡ scalar_len s
+scalar_bytes_lem : (s : ScalarOf ℕ) (bs : List ℕ) → scalar_len s ≤ length bs → bytes_of_scalar (scalar_told s bs) ≡ scalar_len s
 scalar_bytes_lem Null bs h = refl
 scalar_bytes_lem (Boolean b) bs h = refl
 scalar_bytes_lem (Int n) bs h = refl
@@ -42,7 +42,7 @@ scalar_bytes_lem (Counter n) bs h = refl
 scalar_bytes_lem (Str n) bs h = length-take-le n bs h
 scalar_bytes_lem (Bytes n) bs h = length-take-le n bs h
 
-content_bytes_lem : (k : ContentRow) (bs : List ℕ) → content_len k ≤ length bs → content_bytes (content_told k bs) ≡ content_len k
+content_bytes_lem : (k : ValueOf ℕ) (bs : List ℕ) → content_len k ≤ length bs → content_bytes (content_told k bs) ≡ content_len k
 content_bytes_lem (Object k) bs h = refl
 content_bytes_lem (Plain s) bs h = scalar_bytes_lem s bs h
 

@@ -4,13 +4,13 @@ use Rattle.std.proofs.Math.Option.{Option, some}
 use Rattle.types.specs.declared.types.ObjId.{ObjId}
 use Rattle.types.specs.declared.error.Refusal.{Refusal}
 use Rattle.types.specs.declared.error.Refusal.TheVariants.{PathTooDeep, Full}
-use Rattle.patch.specs.declared.rows.PropRow.{PropRow}
-use Rattle.patch.specs.declared.rows.PropRow.TheVariants.{Key, Index}
+use Rattle.types.specs.declared.value.PropOf.{PropOf}
+use Rattle.types.specs.declared.value.PropOf.TheVariants.{Map, Seq}
 use Rattle.patch.specs.declared.rows.StepRow.{StepRow}
-use Rattle.patch.specs.declared.rows.ScalarRow.{ScalarRow}
-use Rattle.patch.specs.declared.rows.ScalarRow.TheVariants.{Null, Boolean, Int, Uint, Timestamp, Counter, Str, Bytes}
-use Rattle.patch.specs.declared.rows.ContentRow.{ContentRow}
-use Rattle.patch.specs.declared.rows.ContentRow.TheVariants.{Object, Scalar as Plain}
+use Rattle.types.specs.declared.value.ScalarOf.{ScalarOf}
+use Rattle.types.specs.declared.value.ScalarOf.TheVariants.{Null, Boolean, Int, Uint, Timestamp, Counter, Str, Bytes}
+use Rattle.types.specs.declared.value.ValueOf.{ValueOf}
+use Rattle.types.specs.declared.value.ValueOf.TheVariants.{Object, Scalar as Plain}
 use Rattle.patch.specs.declared.rows.ValueRow.{ValueRow}
 use Rattle.patch.specs.declared.rows.ActionRow.{ActionRow}
 use Rattle.patch.specs.declared.rows.ActionRow.TheVariants.{PutMap, PutSeq, Insert, SpliceText, Increment, Conflict, DeleteMap, DeleteSeq}
@@ -24,11 +24,11 @@ use Rattle.patch_call.specs.Refused.{early_tests}
 use Rattle.patch_call.specs.Contents.{call_key, call_data}
 use Rattle.patch.specs.Told.{Parts}
 
-abbrev pub prop_row : Prop → PropRow
-prop_row (key k) = Key (length k)
-prop_row (pos i) = Index i
+abbrev pub prop_row : Prop → PropOf ℕ
+prop_row (key k) = Map (length k)
+prop_row (pos i) = Seq i
 
-abbrev pub scalar_row : Scalar → ScalarRow
+abbrev pub scalar_row : Scalar → ScalarOf ℕ
 scalar_row null = Null
 scalar_row (boolean b) = Boolean b
 scalar_row (int n) = Int n
@@ -38,7 +38,7 @@ scalar_row (counter n) = Counter n
 scalar_row (str s) = Str (length s)
 scalar_row (bytes s) = Bytes (length s)
 
-abbrev pub content_row : Content → ContentRow
+abbrev pub content_row : Content → ValueOf ℕ
 content_row (scalar_of s) = Plain (scalar_row s)
 content_row (object_of k) = Object k
 

@@ -1,12 +1,12 @@
 -- What one row says, with the steps, values, units and bytes that are its own.
 use Rattle.std.specs.Prelude.{ℕ, ◌+◌, cond, List, [], ◌∷◌, take, drop}
-use Rattle.patch.specs.declared.rows.PropRow.{PropRow}
-use Rattle.patch.specs.declared.rows.PropRow.TheVariants.{Key, Index}
+use Rattle.types.specs.declared.value.PropOf.{PropOf}
+use Rattle.types.specs.declared.value.PropOf.TheVariants.{Map, Seq}
 use Rattle.patch.specs.declared.rows.StepRow.{StepRow}
-use Rattle.patch.specs.declared.rows.ScalarRow.{ScalarRow}
-use Rattle.patch.specs.declared.rows.ScalarRow.TheVariants.{Null, Boolean, Int, Uint, Timestamp, Counter, Str, Bytes}
-use Rattle.patch.specs.declared.rows.ContentRow.{ContentRow}
-use Rattle.patch.specs.declared.rows.ContentRow.TheVariants.{Object, Scalar as Plain}
+use Rattle.types.specs.declared.value.ScalarOf.{ScalarOf}
+use Rattle.types.specs.declared.value.ScalarOf.TheVariants.{Null, Boolean, Int, Uint, Timestamp, Counter, Str, Bytes}
+use Rattle.types.specs.declared.value.ValueOf.{ValueOf}
+use Rattle.types.specs.declared.value.ValueOf.TheVariants.{Object, Scalar as Plain}
 use Rattle.patch.specs.declared.rows.ValueRow.{ValueRow}
 use Rattle.patch.specs.declared.rows.ActionRow.{ActionRow}
 use Rattle.patch.specs.declared.rows.ActionRow.TheVariants.{PutMap, PutSeq, Insert, SpliceText, Increment, Conflict, DeleteMap, DeleteSeq}
@@ -14,14 +14,14 @@ use Rattle.meaning.specs.Entries.{Scalar, null, boolean, int, uint, timestamp, c
 use Rattle.meaning.specs.Patches.{Prop, key, pos, Step, Action, put_map, put_seq, insert, splice_text, increment, conflict, delete_map, delete_seq}
 
 -- How many bytes a key has; a position has none.
-abbrev pub prop_len : PropRow → ℕ
-prop_len (Key n) = n
-prop_len (Index i) = 0
+abbrev pub prop_len : PropOf ℕ → ℕ
+prop_len (Map n) = n
+prop_len (Seq i) = 0
 
 -- Where in an object, the key's bytes being the first of those given.
-abbrev pub prop_told : PropRow → List ℕ → Prop
-prop_told (Key n) bs = key (take n bs)
-prop_told (Index i) bs = pos i
+abbrev pub prop_told : PropOf ℕ → List ℕ → Prop
+prop_told (Map n) bs = key (take n bs)
+prop_told (Seq i) bs = pos i
 
 -- The bytes of a path's keys.
 abbrev pub steps_len : List StepRow → ℕ
@@ -33,7 +33,7 @@ abbrev pub steps_told : List StepRow → List ℕ → List Step
 steps_told [] bs = []
 steps_told (s ∷ ss) bs = record { leaves = s.leaves; prop = prop_told s.prop bs } ∷ steps_told ss (drop (prop_len s.prop) bs)
 
-abbrev pub scalar_len : ScalarRow → ℕ
+abbrev pub scalar_len : ScalarOf ℕ → ℕ
 scalar_len Null = 0
 scalar_len (Boolean b) = 0
 scalar_len (Int n) = 0
@@ -43,7 +43,7 @@ scalar_len (Counter n) = 0
 scalar_len (Str n) = n
 scalar_len (Bytes n) = n
 
-abbrev pub scalar_told : ScalarRow → List ℕ → Scalar
+abbrev pub scalar_told : ScalarOf ℕ → List ℕ → Scalar
 scalar_told Null bs = null
 scalar_told (Boolean b) bs = boolean b
 scalar_told (Int n) bs = int n
@@ -53,11 +53,11 @@ scalar_told (Counter n) bs = counter n
 scalar_told (Str n) bs = str (take n bs)
 scalar_told (Bytes n) bs = bytes (take n bs)
 
-abbrev pub content_len : ContentRow → ℕ
+abbrev pub content_len : ValueOf ℕ → ℕ
 content_len (Object k) = 0
 content_len (Plain s) = scalar_len s
 
-abbrev pub content_told : ContentRow → List ℕ → Content
+abbrev pub content_told : ValueOf ℕ → List ℕ → Content
 content_told (Object k) bs = object_of k
 content_told (Plain s) bs = scalar_of (scalar_told s bs)
 

@@ -2,52 +2,19 @@
 ghost use Rattle.std.specs.Prelude.{◌≡◌, ℕ, ◌+◌, ◌≤◌, Bool, false, ◌++◌, length};
 ghost use Rattle.meaning.specs.Calls.{put_call};
 ghost use Rattle.sequence_tree.specs.Sequences.{held, capacity};
-ghost use Rattle.patch_call.specs.Seen.{prop_seen, scalar_seen, content_seen, entry_seen, call_seen};
-ghost use Rattle.patch.specs.Made.{prop_row, scalar_row, content_row, value_row, action_row, call_values, call_units};
+ghost use Rattle.patch_call.specs.Seen.{prop_seen, entry_seen, call_seen};
+ghost use Rattle.patch.specs.Made.{value_row, action_row, call_values, call_units};
 
-use crate::rows::{ActionRow, ContentRow, PropRow, ScalarRow, ValueRow};
+use crate::rows::{ActionRow, ValueRow};
 use patch_call::call::{Call, Entry};
 use sequence_tree::sequence::Sequence;
-use types::value::{Prop, ScalarValue, Value};
-
-fn prop_row(p: Prop) -> PropRow
-    ensures { result ≡ prop_row (prop_seen p.entry) }
-{
-    match p {
-        Prop::Map(key) => PropRow::Key(key.len()),
-        Prop::Seq(i) => PropRow::Index(i),
-    }
-}
-
-fn scalar_row(s: ScalarValue) -> ScalarRow
-    ensures { result ≡ scalar_row (scalar_seen s.entry) }
-{
-    match s {
-        ScalarValue::Null => ScalarRow::Null,
-        ScalarValue::Boolean(b) => ScalarRow::Boolean(b),
-        ScalarValue::Int(n) => ScalarRow::Int(n),
-        ScalarValue::Uint(n) => ScalarRow::Uint(n),
-        ScalarValue::Timestamp(n) => ScalarRow::Timestamp(n),
-        ScalarValue::Counter(n) => ScalarRow::Counter(n),
-        ScalarValue::Str(s) => ScalarRow::Str(s.len()),
-        ScalarValue::Bytes(s) => ScalarRow::Bytes(s.len()),
-    }
-}
-
-fn content_row(value: Value) -> ContentRow
-    ensures { result ≡ content_row (content_seen value.entry) }
-{
-    match value {
-        Value::Object(kind) => ContentRow::Object(kind),
-        Value::Scalar(s) => ContentRow::Scalar(scalar_row(s)),
-    }
-}
+use types::value::Prop;
 
 pub fn value_row(e: Entry, wide: bool) -> ValueRow
     ensures { result ≡ value_row (entry_seen e.entry) wide }
 {
     ValueRow {
-        content: content_row(e.value),
+        content: e.value.map(|bytes| bytes.len()),
         id: e.id,
         conflict: e.conflict,
         wide,
@@ -73,8 +40,8 @@ pub fn action_row(call: Call, units: usize, wide: bool) -> ActionRow
         Call::Insert(i, _) => ActionRow::Insert(i, 1, usize::from(wide)),
         Call::DeleteSeq(i, n) => ActionRow::DeleteSeq(i, n),
         Call::DeleteMap(key) => ActionRow::DeleteMap(key.len()),
-        Call::Increment(p, by, _) => ActionRow::Increment(prop_row(p), by),
-        Call::FlagConflict(p) => ActionRow::Conflict(prop_row(p)),
+        Call::Increment(p, by, _) => ActionRow::Increment(p.map(|key| key.len()), by),
+        Call::FlagConflict(p) => ActionRow::Conflict(p.map(|key| key.len())),
         Call::SpliceText(i, _) => ActionRow::SpliceText(i, units),
     }
 }

@@ -10,8 +10,8 @@ fn prop_len(p: PropRow) -> usize
     ensures { result ≡ prop_len p }
 {
     match p {
-        PropRow::Key(n) => n,
-        PropRow::Index(_) => 0,
+        PropRow::Map(n) => n,
+        PropRow::Seq(_) => 0,
     }
 }
 

@@ -1,13 +1,10 @@
 // What lies in the memory of patches: plain rows that say how much of the
 // content behind them is their own.
-use types::types::{ObjId, ObjType, OpId};
+use types::types::{ObjId, OpId};
+use types::value::{PropOf, ScalarOf, ValueOf};
 
 // Where in an object: a key of so many bytes, or a position.
-#[derive(Clone, Copy)]
-pub enum PropRow {
-    Key(usize),
-    Index(usize),
-}
+pub type PropRow = PropOf<usize>;
 
 // A step of a path, with the object that it leaves.
 #[derive(Clone, Copy)]
@@ -17,23 +14,9 @@ pub struct StepRow {
 }
 
 // A scalar; a string or byte string has so many bytes.
-#[derive(Clone, Copy)]
-pub enum ScalarRow {
-    Null,
-    Boolean(bool),
-    Int(i64),
-    Uint(u64),
-    Timestamp(i64),
-    Counter(i64),
-    Str(usize),
-    Bytes(usize),
-}
+pub type ScalarRow = ScalarOf<usize>;
 
-#[derive(Clone, Copy)]
-pub enum ContentRow {
-    Object(ObjType),
-    Scalar(ScalarRow),
-}
+pub type ContentRow = ValueOf<usize>;
 
 // What a patch places. `wide` says that it is not one unit wide in a text.
 #[derive(Clone, Copy)]

@@ -1,12 +1,12 @@
 use Rattle.std.proofs.Common.{sym, ◌∙◌}
-use Rattle.patch.specs.declared.rows.PropRow.TheVariants.{Key}
+use Rattle.types.specs.declared.value.PropOf.TheVariants.{Map}
 use Rattle.patch.specs.declared.rows.StepRow.{StepRow}
 use Rattle.patch.proofs.Paths.{rows_refused, rows_next, rows_end}
 use Rattle.patch.proofs.path.is_path.Goals as goal
 
 -- what stands past the last
 none : StepRow
-none = record { leaves = record { 0 = record { counter = 0; actor = 0 } }; prop = Key 0 }
+none = record { leaves = record { 0 = record { counter = 0; actor = 0 } }; prop = Map 0 }
 
 pub returns-then-n-gt-KEY_BYTES : goal.returns-then-n-gt-KEY_BYTES
 unfolding none

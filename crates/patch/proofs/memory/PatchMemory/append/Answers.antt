@@ -54,7 +54,7 @@ returns-then-is_full-clause-answer g c =
     sym (ap (λ t. answer (cond t (some Full) none)) c.if-is_full.true) ∙ full g (goal.at.returns-then-is_full-clause-answer g c).After-is_full
 
 space : (g : _) (c : After-key-key g) → Room c.args.self.now (length c.args.path.steps.now) (length (call_values (call_seen c.args.call) c.args.wide)) (length (call_units (call_seen c.args.call) c.args.units.now))
-  (length c.args.path.keys.now + (length (call_key (call_seen c.args.call)) + length (call_data (call_seen c.args.call))))
+    (length c.args.path.keys.now + (length (call_key (call_seen c.args.call)) + length (call_data (call_seen c.args.call))))
 space g c = room c.args.self.now _ _ _ _ c.if-path-gt-PATH_STEPS.false (sym (c.is_full.ensures c.args.wide) ∙ c.if-is_full.false)
 
 pub extend-requires : goal.extend-requires
