@@ -21,7 +21,7 @@ use Rattle.patch.specs.Sound.{newest}
 use Rattle.patch.specs.Held.{parts_of, held_of, flags_of}
 use Rattle.patch.specs.declared.memory.PatchMemory.{PatchMemory}
 use Rattle.patch.specs.Made.{call_values, call_units, row_made, parts_made, with_own, appending, late, late_tests}
-use Rattle.patch.proofs.Tell.{Fits, told_added, flags_added, laid_added, overfull_told}
+use Rattle.patch.proofs.Tell.{told_added, flags_added, laid_added, overfull_told}
 use Rattle.patch.proofs.Own.{fits_own, patch_own}
 
 pub steps_count : (ss : List StepRow) (bs : List ℕ) → length (steps_told ss bs) ≡ length ss

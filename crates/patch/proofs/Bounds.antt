@@ -1,10 +1,9 @@
 -- What is held keeps within the bounds, since there are no more places.
-use Rattle.std.proofs.Common.{◌≡◌, ℕ, ◌+◌, ◌≤◌, false, ltb, List, reverse, length, arith, length-take}
+use Rattle.std.proofs.Common.{◌≡◌, ℕ, ◌+◌, ◌≤◌, false, ltb, length, arith, length-take}
 use Rattle.std.proofs.lemmas.List.{length-reverse}
 use Rattle.std.proofs.lemmas.Bool.{or_parts, ltb-false}
 use Rattle.sequence_tree.specs.declared.sequence.Sequence.{Sequence}
 use Rattle.sequence_tree.specs.Sequences.{held, capacity}
-use Rattle.patch.specs.declared.rows.StepRow.{StepRow}
 use Rattle.patch.specs.declared.memory.PatchMemory.{PatchMemory}
 use Rattle.patch.specs.Told.{passes}
 use Rattle.patch.specs.Sound.{newest}

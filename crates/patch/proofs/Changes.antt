@@ -4,6 +4,7 @@ use Rattle.std.specs.List.{slice_get}
 use Rattle.std.proofs.lemmas.List.{reverse-append, length-reverse, get_or-reverse, drop_at, drop_all}
 use Rattle.std.proofs.lemmas.Option.{slice_get-get_or}
 use Rattle.std.proofs.lemmas.Bool.{and_parts}
+use Rattle.sequence_tree.specs.Sequences.{held}
 use Rattle.sequence_tree.specs.Lists.{spliced}
 use Rattle.patch.specs.declared.rows.ActionRow.{ActionRow}
 use Rattle.patch.specs.declared.rows.ActionRow.TheVariants.{PutMap, DeleteSeq}
@@ -11,11 +12,11 @@ use Rattle.patch.specs.declared.rows.PatchRow.{PatchRow}
 use Rattle.patch.specs.declared.memory.PatchMemory.{PatchMemory}
 use Rattle.meaning.specs.Calls.{bad_length}
 use Rattle.meaning.specs.Patches.{Action}
-use Rattle.patch.specs.Told.{Parts, block, rest, patch_told, told, flags_told, fits_row, laid}
+use Rattle.patch.specs.Told.{Parts, block, told, flags_told, fits_row, laid}
 use Rattle.patch.specs.Sound.{newest}
 use Rattle.patch.specs.Held.{parts_of}
 use Rattle.patch.specs.Edits.{change_tail, flag_put, lengthen, length_fits, of_tail}
-use Rattle.patch.specs.Tails.{TailIs, TailHeld, flag_row, lengthen_row, fits_length, with_action}
+use Rattle.patch.specs.Tails.{TailHeld, flag_row, lengthen_row, fits_length, with_action}
 use Rattle.patch.proofs.Walks.{nth_none, nth_some}
 
 -- the last of a list is the first of it reversed
@@ -44,22 +45,11 @@ set_newest xs zs y h e =
     ap reverse (e ∙ ap (λ w. take n xs ++ (y ∷ w)) d)
     ∙ (reverse-append (take n xs) (y ∷ []) ∙ ap (λ w. y ∷ w) (sym (older xs h)))
 
-module _ {U : Type 0} (R : List PatchRow) (c : Parts U) (shared : laid R c ≡ true) (r : PatchRow) (e : R ≡ r ∷ drop 1 R) where
-  pub tail_laid : (fits_row r (block r c) ≡ true) × (laid (drop 1 R) (rest r c) ≡ true)
-  tail_laid = and_parts (fits_row r (block r c)) (laid (drop 1 R) (rest r c)) (sym (ap (λ rs. laid rs c) e) ∙ shared)
-
-  pub tail_told : told R c ≡ patch_told r (block r c) ∷ told (drop 1 R) (rest r c)
-  tail_told = ap (λ rs. told rs c) e
-
-pub tail_seen : {U : Type 0} (m : PatchMemory U) (xs : List PatchRow) → reverse xs ≡ newest m.rows
-    → (t : Option PatchRow) → t ≡ slice_get xs (length xs - 1) → TailIs (newest m.rows) t × TailHeld m t
-tail_seen m xs q t h = go t (rw q at (h ∙ sym (last_first xs)))
-  where
-    go : (t : Option PatchRow) → t ≡ slice_get (newest m.rows) 0 → TailIs (newest m.rows) t × TailHeld m t
-    go None n = let z = nth_none (newest m.rows) 0 (sym n) in (z, ap (λ rs. told rs (parts_of m)) z)
-    go (Some r) n =
-        let z = nth_some (newest m.rows) 0 r (sym n) in
-        (z, (tail_told (newest m.rows) (parts_of m) m.shared r z, (tail_laid (newest m.rows) (parts_of m) m.shared r z).0))
+pub tail_held : {U : Type 0} (m : PatchMemory U) (t : Option PatchRow) → t ≡ slice_get (held m.rows) (length (held m.rows) - 1) → TailHeld m t
+tail_held m None h = ap (λ rs. told rs (parts_of m)) (nth_none (newest m.rows) 0 (last_first (held m.rows) ∙ sym h))
+tail_held m (Some r) h =
+    let e = nth_some (newest m.rows) 0 r (last_first (held m.rows) ∙ sym h) in
+    (ap (λ rs. told rs (parts_of m)) e, (and_parts (fits_row r (block r (parts_of m))) _ (sym (ap (λ rs. laid rs (parts_of m)) e) ∙ m.shared)).0)
 
 module _ {U : Type 0} (rs : List PatchRow) (c : Parts U) where
   -- a row p in the place of r changes what its patch does, and nothing else

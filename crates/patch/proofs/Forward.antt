@@ -1,10 +1,15 @@
 -- Reading from the front and from the end.
 use Rattle.std.proofs.Common.{◌≡◌, ◌≤◌, true, eqb, List, [], ◌∷◌, ◌++◌, reverse, length, sym, refl, ap, ◌∙◌, subst, arith, length-append}
-use Rattle.std.proofs.lemmas.List.{take-append-le, drop-append-le, take_all, drop_all, nil_from_length, reverse-append}
+use Rattle.std.proofs.lemmas.List.{take-append-le, drop-append-le, take_all, drop_all, nil_from_length, reverse-append, reverse-reverse}
 use Rattle.std.proofs.lemmas.Bool.{and_parts, eqb-true}
 use Rattle.patch.specs.declared.rows.PatchRow.{PatchRow}
 use Rattle.patch.specs.Rows.{values_in, units_in}
 use Rattle.patch.specs.Told.{Parts, plus, block, rest, ahead, after, patch_told, told, told_forward, fits_row, laid, BothWays}
+use Rattle.patch.specs.declared.memory.PatchMemory.{PatchMemory}
+use Rattle.patch.specs.Sound.{newest}
+use Rattle.patch.specs.Held.{parts_of, held_of}
+use Rattle.patch.specs.Walk.{rest_at}
+use Rattle.sequence_tree.specs.Sequences.{held}
 use Rattle.patch.proofs.Tell.{Fits, fits_parts, both_parts}
 
 module _ {U : Type 0} where
@@ -85,3 +90,6 @@ module _ {U : Type 0} where
 
 pub both_ways : (U : Type 0) → BothWays U
 both_ways U rs c h = (ways rs c h).1
+
+pub from_start : {U : Type 0} (m : PatchMemory U) → rest_at m (record { row = 0; step = 0; value = 0; unit = 0; byte = 0 }) ≡ reverse (held_of m)
+from_start {U = U} m = sym (ap (λ rs. told_forward rs (parts_of m)) (reverse-reverse (held m.rows))) ∙ both_ways U (newest m.rows) (parts_of m) m.shared

@@ -1,6 +1,6 @@
 -- Rows with what is their own, at the end of what there is.
 use Rattle.std.proofs.Common.{◌≡◌, ℕ, suc, ◌+◌, ◌-◌, ◌*◌, ◌≤◌, true, List, [], ◌∷◌, length, take, drop, sym, refl, ap, ◌∙◌, arith, length-append, length-drop}
-use Rattle.std.proofs.lemmas.List.{length-take-le}
+use Rattle.std.proofs.lemmas.List.{length-take-le, length-reverse}
 use Rattle.std.proofs.lemmas.Bool.{and_parts, and_from, eqb-true, eq-eqb, leb-true, le-leb}
 use Rattle.types.specs.declared.value.PropOf.{PropOf}
 use Rattle.types.specs.declared.value.PropOf.TheVariants.{Map, Seq}
@@ -17,6 +17,10 @@ use Rattle.meaning.specs.Entries.{bytes_of_scalar, content_bytes}
 use Rattle.meaning.specs.Builder.{prop_bytes, bytes_of_path, entries_bytes, action_values, action_units, action_bytes, load, overfull}
 use Rattle.patch.specs.Rows.{prop_len, prop_told, steps_len, steps_told, scalar_len, scalar_told, content_len, content_told, values_len, entries_told, wides, values_in, units_in, wides_in, action_len, action_told}
 use Rattle.patch.specs.Told.{Parts, plus, block, rest, patch_told, told, wide_flags, flags_told, fits_row, bare, laid, passes}
+use Rattle.sequence_tree.specs.Sequences.{held}
+use Rattle.patch.specs.declared.memory.PatchMemory.{PatchMemory}
+use Rattle.patch.specs.Sound.{newest}
+use Rattle.patch.specs.Held.{parts_of, held_of}
 use Rattle.patch.proofs.Tails.{last_append, front_append, front_last}
 
 -- keys and strings are within what there is
@@ -228,3 +232,9 @@ module _ {U : Type 0} where
       let n = steps_few rs (rest r c) l.1 in
       let e : length c.steps ≡ length (rest r c).steps + length (block r c).steps = sym (ap (λ x. length x.steps) (both_parts r c)) ∙ length-append (rest r c).steps (block r c).steps in
       omega (arith, f.steps, f.short)
+
+pub load_held : {U : Type 0} (m : PatchMemory U)
+    → load (held_of m) ≡ record { patch_count = length (held m.rows); value_count = length (held m.values); text_units = length (held m.units); byte_count = length (held m.bytes) }
+load_held m =
+    load_told_lem (newest m.rows) (parts_of m) m.shared
+    ∙ ap (λ n. record { patch_count = n; value_count = length (held m.values); text_units = length (held m.units); byte_count = length (held m.bytes) }) (length-reverse (held m.rows))

@@ -53,6 +53,7 @@ impl Cursor {
 impl<'m, U: Copy> PatchMemory<'m, U> {
     // The place of the oldest patch. From there, reading forward gives all
     // that are held.
+    #[tactic(auto, using(crate::proofs::Forward::from_start))]
     pub fn first(&self) -> Cursor
         ensures { rest_at self.now result ≡ reverse (held_of self.now) }
     {

@@ -62,6 +62,7 @@ impl ActionRow {
 
 impl<'m, U: Copy> PatchMemory<'m, U> {
     // The row of the last patch; none where none is held.
+    #[tactic(auto, using(crate::proofs::Changes::tail_held))]
     pub fn tail(&self) -> Option<PatchRow>
         ensures row { TailIs (newest self.now.rows) result }
         ensures held { TailHeld self.now result }

@@ -8,6 +8,7 @@ use crate::batch::Batch;
 
 impl<'m, U: Copy> PatchMemory<'m, U> {
     // The receipt for what is held, which stays until the receipt is spent.
+    #[tactic(auto, using(crate::proofs::Tell::load_held))]
     pub fn take(&mut self) -> Batch
         ensures counts { load_told result ≡ load (held_of self.old) }
         ensures held { held_of self.new ≡ held_of self.old }

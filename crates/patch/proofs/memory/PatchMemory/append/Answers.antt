@@ -1,5 +1,5 @@
-use Rattle.std.proofs.Common.{◌≡◌, ◌+◌, ◌++◌, ◌∷◌, [], cond, reverse, length, Err, Result, sym, refl, ap, ◌∙◌, append_assoc, arith, length-append}
-use Rattle.std.proofs.lemmas.List.{length-reverse, reverse-append}
+use Rattle.std.proofs.Common.{◌≡◌, ◌+◌, ◌++◌, ◌∷◌, [], cond, reverse, length, Err, Result, sym, ap, ◌∙◌, append_assoc, arith, length-append}
+use Rattle.std.proofs.lemmas.List.{reverse-append}
 use Rattle.std.proofs.lemmas.Result.{err_from_is_err_and}
 use Rattle.sequence_tree.specs.Sequences.{held}
 use mathlib.Core.Option.{none, some}
@@ -10,10 +10,9 @@ use Rattle.patch.specs.declared.rows.PatchRow.{PatchRow}
 use Rattle.patch_call.specs.Seen.{call_seen}
 use Rattle.patch_call.specs.Contents.{call_key, call_data}
 use Rattle.patch.specs.Rows.{steps_told}
-use Rattle.patch.specs.Told.{Parts, plus}
-use Rattle.patch.specs.Made.{call_values, call_units, row_made, parts_made, appending, late}
+use Rattle.patch.specs.Made.{call_values, call_units, row_made, appending, late}
 use Rattle.patch.specs.Sound.{newest, parts_in}
-use Rattle.patch.specs.Held.{parts_of, held_of}
+use Rattle.patch.specs.Held.{held_of}
 use Rattle.patch.proofs.Bounds.{Room, room}
 use Rattle.patch.proofs.Adding.{Stored, stored, over_own, late_deep, late_full, refused_early, passed_early}
 use Rattle.patch.proofs.memory.PatchMemory.append.Goals as goal

@@ -8,7 +8,7 @@ use Rattle.patch.specs.Tails.{with_action}
 use Rattle.patch.specs.Told.{told}
 use Rattle.patch.specs.Sound.{newest}
 use Rattle.patch.specs.Held.{parts_of}
-use Rattle.patch.proofs.Changes.{Changed, changed, length_retold, length_some, length_none}
+use Rattle.patch.proofs.Changes.{Changed, changed, length_retold, length_some}
 use Rattle.patch.proofs.memory.PatchMemory.join_delete.Goals as goal
 use Rattle.patch.proofs.memory.PatchMemory.join_delete.Goals.{After-set_tail}
 

@@ -1,5 +1,4 @@
 use Rattle.std.proofs.Common.{◌≡◌, ◌+◌, ◌-◌, min, not, ltb, refl, sym, length, ap, ◌∙◌, arith}
-use Rattle.std.proofs.lemmas.List.{length-reverse}
 use Rattle.sequence_tree.specs.Sequences.{held}
 use Rattle.types.specs.declared.error.Refusal.TheVariants.{Full}
 use Rattle.meaning.specs.Results.{provided}
