@@ -1,2 +1,1 @@
 pub mod PackedRows
-pub mod Packing

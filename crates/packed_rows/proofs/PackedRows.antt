@@ -1,5 +1,5 @@
 -- The rows of packed places, and what a splice leaves of them.
-use Rattle.std.proofs.Common.{◌≡◌, ℕ, ◌+◌, ◌-◌, ◌<◌, ◌≤◌, min, List, [], length, get_or, take, drop, sym, ◌∙◌, ⊎_elim, arith, length-drop, length-take, get_or-drop, rules}
+use Rattle.std.proofs.Common.{◌≡◌, ℕ, ◌+◌, ◌-◌, ◌<◌, ◌≤◌, List, [], length, get_or, take, drop, sym, ◌∙◌, ⊎_elim, arith, length-drop, length-take, get_or-drop, rules}
 use Rattle.std.proofs.lemmas.List.{places, same_lists, get_or_past, get_or-take}
 use Rattle.std.proofs.lemmas.Bool.{cases_lt}
 use Rattle.sequence_tree.specs.Lists.{spliced, Replaced}
@@ -22,10 +22,6 @@ row_at t s i k d h l m =
 -- past the last row there is nothing
 pub row_past : {X : Type 0} (t : List ℕ) (s : List X) (i : ℕ) → length t ≤ i + 1 → row t s i ≡ []
 row_past t s i h = let e = get_or_past t (i + 1) 0 h in let z : get_or t (i + 1) 0 - get_or t i 0 ≡ 0 = omega arith in rw z
-
--- a part read within the places
-pub part_within : {X : Type 0} (s : List X) (from to low high : ℕ) → high ≡ min to (length s) → low ≡ min from high → take (high - low) (drop low s) ≡ take (to - from) (drop from s)
-part_within s from to low high a b = same_lists _ _ (simp (length-take, length-drop) (omega arith)) (λ k d h. grind (arith, places))
 
 -- where a part of row i lies
 pub record Bounds (starts : List ℕ) (i at k : ℕ) : Type 0 where

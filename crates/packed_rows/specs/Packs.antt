@@ -1,5 +1,5 @@
 -- What packed rows hold.
-use Rattle.std.specs.Prelude.{ℕ, ◌+◌, ◌-◌, min, cond, List, length, Err, Result, nat_lt}
+use Rattle.std.specs.Prelude.{ℕ, ◌+◌, ◌-◌, cond, List, length, Err, Result, nat_lt}
 use Rattle.sequence_tree.specs.declared.error.SequenceError.{SequenceError}
 use Rattle.sequence_tree.specs.declared.error.SequenceError.TheVariants.{OutOfRange}
 use Rattle.packed_rows.specs.declared.packed.PackedRows.{PackedRows}
@@ -8,19 +8,19 @@ use Rattle.packed_rows.specs.Rows.{row, used}
 
 -- how many rows there are
 abbrev pub row_count : {X : Type 0} → PackedRows X → ℕ
-row_count p = length p.starts.at.now - 1
+row_count p = length p.starts.now - 1
 
 -- the row i, which is empty past the last
 abbrev pub row_of : {X : Type 0} → PackedRows X → ℕ → List X
-row_of p i = row p.starts.at.now p.places.places.now i
+row_of p i = row p.starts.now p.places.now i
 
 -- how many elements all rows have together
 abbrev pub used_in : {X : Type 0} → PackedRows X → ℕ
-used_in p = used p.starts.at.now
+used_in p = used p.starts.now
 
 -- how many they can have: as many as there are places, and no more than a start of 32 bits can count
 abbrev pub room_in : {X : Type 0} → PackedRows X → ℕ
-room_in p = min (length p.places.places.now) 4294967295
+room_in p = length p.places.now
 
 -- the answer to replacing, in row i, the k elements from `at` on by m others: a row may grow by the places that are free
 abbrev pub row_splicing : {X : Type 0} → PackedRows X → ℕ → ℕ → ℕ → ℕ → Result (Unit {0}) SequenceError

@@ -3,23 +3,24 @@ ghost use Rattle.sequence_tree.specs.Lists.{spliced};
 ghost use Rattle.packed_rows.specs.Packs.{row_count, row_of, used_in, room_in, row_splicing};
 
 use super::PackedRows;
-use crate::lent::Lent;
-use crate::starts::Starts;
+use crate::rows::{row_of, splice_row};
 use sequence_tree::error::SequenceError;
 use sequence_tree::places::check_splice;
 
 impl<'m, T: Copy> PackedRows<'m, T> {
-    // Empty rows, one fewer than starts.
+    // Empty rows, one fewer than starts. Places that a start of 32 bits cannot count stay free.
     pub fn new(places: &'m mut [T], starts: &'m mut [u32]) -> PackedRows<'m, T>
         ensures rows { row_count result ≡ length starts.old - 1 }
         ensures room { room_in result ≡ min (length places.old) 4294967295 }
         ensures used { used_in result ≡ 0 }
         ensures empty { (i : ℕ) → row_of result i ≡ [] }
     {
-        let mut starts = Starts { at: starts };
-        starts.clear();
-        let places = Lent { places, len: 0 };
-        PackedRows { places, starts }
+        let room = places.len().min(0xffff_ffff);
+        starts.fill(0);
+        PackedRows {
+            places: &mut places[..room],
+            starts,
+        }
     }
 
     pub fn rows(&self) -> usize
@@ -32,25 +33,20 @@ impl<'m, T: Copy> PackedRows<'m, T> {
     pub fn used(&self) -> usize
         ensures { result ≡ used_in self.now }
     {
-        self.places.len
+        self.starts.last().copied().unwrap_or(0) as usize
     }
 
     pub fn capacity(&self) -> usize
         ensures { result ≡ room_in self.now }
     {
-        self.places.room().min(0xffff_ffff)
+        self.places.len()
     }
 
     // The row i; past the last, an empty one.
     pub fn row(&self, i: usize) -> &[T]
         ensures { result.now ≡ row_of self.now i }
     {
-        if i >= self.rows() {
-            return self.places.part(0, 0);
-        }
-        let from = self.starts.start(i);
-        let to = self.starts.start(i + 1);
-        self.places.part(from, to)
+        row_of(self.places, self.starts, i)
     }
 
     // Whether, in row i, the k elements from `at` on can be replaced by m others.
@@ -60,9 +56,8 @@ impl<'m, T: Copy> PackedRows<'m, T> {
         if i >= self.rows() {
             return Err(SequenceError::OutOfRange);
         }
-        let len = self.starts.start(i + 1) - self.starts.start(i);
-        let free = self.capacity() - self.used();
-        check_splice(free + len, len, at, k, m)
+        let len = self.row(i).len();
+        check_splice(self.capacity() - self.used() + len, len, at, k, m)
     }
 
     // In row i, the k elements from `at` on are replaced by xs.
@@ -75,9 +70,7 @@ impl<'m, T: Copy> PackedRows<'m, T> {
         ensures room { room_in self.new ≡ room_in self.old }
     {
         self.check(i, at, k, xs.len())?;
-        let from = self.starts.start(i);
-        self.places.splice(from + at, k, xs);
-        self.starts.move_on(i, k as u32, xs.len() as u32);
+        splice_row(self.places, self.starts, i, at, k, xs);
         Ok(())
     }
 }
