@@ -3,6 +3,14 @@ use Rattle.std.proofs.Common.{◌≡◌, ℕ, zero, suc, ◌+◌, ◌<◌, ◌�
 use mathlib.Core.Option.{none, some}
 use Rattle.std.proofs.lemmas.List.{drop_more, drop_all}
 use Rattle.std.proofs.lemmas.Bool.{and_parts}
+use Rattle.std.proofs.lemmas.Iterator.{YieldsList-from_range}
+use Rattle.std.proofs.lemmas.Iterator.Search.{all_from_yields_List}
+use Rattle.std.proofs.iter.Yields.{nat_range_steps}
+use Rattle.std.specs.List.{list_all, range_with_len}
+use Rattle.std.specs.Iterator.{ChecksAll}
+use Rattle.std.specs.Fn.{Called}
+use Rattle.std.specs.declared.ops.Range.{Range}
+use denote.Param.Members.{Mut}
 use Rattle.document.specs.Places.{first, nth}
 use Rattle.document.specs.Laws.{every, chained, chain_from}
 use Rattle.document.specs.Steps.{passes, ordered}
@@ -40,23 +48,30 @@ module _ {X : Type 0} (p : X → Bool) (xs : List X) (i : ℕ) (so : every p (dr
   pub every_all : length xs ≤ i → true ≡ every p xs
   every_all h = sym (ap (every p) (drop_all i xs h)) ∙ so
 
+-- a test at each place from one on, as a chain of all places makes it
+every_placed : {X : Type 0} (p : X → Bool) (xs : List X) (n i : ℕ) → length xs ≤ i + n → list_all (λ k. passes p (nth xs k)) (range_with_len i n) ≡ every p (drop i xs)
+every_placed p xs zero i h = sym (ap (every p) (drop_all i xs (omega arith)))
+every_placed p xs (suc n) i h =
+    ap (λ b. passes p (nth xs i) && b) (every_placed p xs n (i + 1) (omega arith) ∙ ap (every p) (drop_next xs i)) ∙ sym (every_first p (drop i xs))
+
 chain_first : {X : Type 0} (lt : X → X → Bool) (xs : List X) → chained lt xs ≡ (ordered lt (first xs) (first (drop 1 xs)) && chained lt (drop 1 xs))
 chain_first lt [] = refl
 chain_first lt (x ∷ []) = refl
 chain_first lt (x ∷ (y ∷ ys)) = refl
 
-module _ {X : Type 0} (lt : X → X → Bool) (xs : List X) (i : ℕ) (so : chained lt (drop i xs) ≡ chained lt xs) where
-  chain_here : chained lt xs ≡ (ordered lt (nth xs i) (nth xs (i + 1)) && chained lt (drop (i + 1) xs))
-  chain_here = sym so ∙ (chain_first lt (drop i xs) ∙ ap (λ ys. ordered lt (nth xs i) (first ys) && chained lt ys) (sym (drop_next xs i)))
+chain_placed : {X : Type 0} (lt : X → X → Bool) (xs : List X) (n i : ℕ) → length xs ≤ i + n → list_all (λ k. ordered lt (nth xs k) (nth xs (k + 1))) (range_with_len i n) ≡ chained lt (drop i xs)
+chain_placed lt xs zero i h = sym (ap (chained lt) (drop_all i xs (omega arith)))
+chain_placed lt xs (suc n) i h =
+    ap (λ b. ordered lt (nth xs i) (nth xs (i + 1)) && b) (chain_placed lt xs n (i + 1) (omega arith) ∙ ap (chained lt) (drop_next xs i))
+    ∙ (ap (λ ys. ordered lt (nth xs i) (first ys) && chained lt (drop 1 (drop i xs))) (drop_next xs i) ∙ sym (chain_first lt (drop i xs)))
 
-  pub chain_on : (t : Bool) → t ≡ ordered lt (nth xs i) (nth xs (i + 1)) → t ≡ true → chained lt (drop (i + 1) xs) ≡ chained lt xs
-  chain_on t e h = sym (chain_here ∙ ap (λ b. b && chained lt (drop (i + 1) xs)) (sym e ∙ h))
+-- what a chain of all places below n answers
+module _ {X F : Type 0} {g : Mut F (ℕ × Unit {0}) Bool} (xs : List X) (n : ℕ) (far : length xs ≤ n) (u : Range ℕ) (f : F) (r : Bool) (ran : ChecksAll nat_range_steps g (record { start = 0; end = n }) f r u) where
+  pub every_by_all : (p : X → Bool) → ((i : ℕ) (b : Bool) (q : F) → Called g f (i, tt) b q → (q ≡ f) × (b ≡ passes p (nth xs i))) → r ≡ every p xs
+  every_by_all p h = all_from_yields_List (λ i. passes p (nth xs i)) u f r ran (YieldsList-from_range 0 n n refl (omega arith)) h ∙ every_placed p xs n 0 (omega arith)
 
-  pub chain_off : (t : Bool) → t ≡ ordered lt (nth xs i) (nth xs (i + 1)) → t ≡ false → false ≡ chained lt xs
-  chain_off t e h = sym (chain_here ∙ ap (λ b. b && chained lt (drop (i + 1) xs)) (sym e ∙ h))
-
-  pub chain_all : length xs ≤ i → true ≡ chained lt xs
-  chain_all h = sym (ap (chained lt) (drop_all i xs h)) ∙ so
+  pub chained_by_all : (lt : X → X → Bool) → ((i : ℕ) (b : Bool) (q : F) → Called g f (i, tt) b q → (q ≡ f) × (b ≡ ordered lt (nth xs i) (nth xs (i + 1)))) → r ≡ chained lt xs
+  chained_by_all lt h = all_from_yields_List (λ i. ordered lt (nth xs i) (nth xs (i + 1))) u f r ran (YieldsList-from_range 0 n n refl (omega arith)) h ∙ chain_placed lt xs n 0 (omega arith)
 
 -- in a chain each comes before all later ones
 module _ {X : Type 0} (lt : X → X → Bool) (across : (x y z : X) → lt x y ≡ true → lt y z ≡ true → lt x z ≡ true) (d : X) where

@@ -1,5 +1,5 @@
 -- Paths, as they are found and written.
-use Rattle.std.specs.Prelude.{◌≡◌, ℕ, ◌<◌, ◌≤◌, Bool, false, List, [], ◌∷◌, ◌++◌, length, take, drop, Some, None, Option as Answer, ◌==◌}
+use Rattle.std.specs.Prelude.{◌≡◌, ℕ, ◌<◌, ◌≤◌, Bool, false, List, [], ◌∷◌, ◌++◌, length, take, drop, Some, None, Option as Answer, Ok, Err, Result, ◌==◌}
 use Rattle.std.proofs.Math.Option.{Option, none, some, map}
 use Rattle.types.specs.Limits.{limits}
 use Rattle.types.specs.declared.types.OpId.{OpId}
@@ -9,8 +9,8 @@ use Rattle.meaning.specs.Patches.{Prop, key, pos, Step}
 use Rattle.meaning.specs.Rows.{map_of, list_of, text_of}
 use Rattle.meaning.specs.Documents.{DocRow, Obj, Doc, find, items, seek, path_of}
 use Rattle.document.specs.declared.step.PathStep.{PathStep}
-use Rattle.document.specs.declared.step.PathAnswer.{PathAnswer}
-use Rattle.document.specs.declared.step.PathAnswer.TheVariants.{NoPath, TooDeep, Steps}
+use Rattle.document.specs.declared.step.PathError.{PathError}
+use Rattle.document.specs.declared.step.PathError.TheVariants.{NoPath, TooDeep}
 use Rattle.document.specs.Places.{nth}
 
 -- Whether an entry names the object of rank i.
@@ -67,7 +67,7 @@ Climbed d path old new None = (path ≡ none) × (new ≡ old)
 Climbed d path old new (Some k) = (p : List Step) × (path ≡ some p) × (k ≡ length p) × Written d p old new
 
 -- What finding a path answers and writes.
-abbrev pub Answered : Doc → Option (List Step) → List PathStep → List PathStep → PathAnswer → Type 0
-Answered d path old new NoPath = (path ≡ none) × (new ≡ old)
-Answered d path old new TooDeep = (p : List Step) × (path ≡ some p) × (limits.path_steps < length p) × Written d p old new
-Answered d path old new (Steps k) = (p : List Step) × (path ≡ some p) × (k ≡ length p) × (k ≤ limits.path_steps) × Written d p old new
+abbrev pub Answered : Doc → Option (List Step) → List PathStep → List PathStep → Result ℕ PathError → Type 0
+Answered d path old new (Err NoPath) = (path ≡ none) × (new ≡ old)
+Answered d path old new (Err TooDeep) = (p : List Step) × (path ≡ some p) × (limits.path_steps < length p) × Written d p old new
+Answered d path old new (Ok k) = (p : List Step) × (path ≡ some p) × (k ≡ length p) × (k ≤ limits.path_steps) × Written d p old new

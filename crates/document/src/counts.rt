@@ -27,10 +27,7 @@ fn spend_bytes<R: Rows>(rows: &R, i: usize, room: usize) -> Option<usize>
 {
     let mut left = room;
     for n in 0..rows.size(i) {
-        let Some(next) = spend_entry(rows, i, n, left) else {
-            return None;
-        };
-        left = next;
+        left = spend_entry(rows, i, n, left)?;
     }
     Some(left)
 }
@@ -40,23 +37,15 @@ fn spend_row<R: Rows>(rows: &R, i: usize, room: Room) -> Option<Room>
     ensures { result ≡ taken_up room (counts_told (nth (R.shaped rows.now).doc i)) }
 {
     match rows.text(i) {
-        Some(t) => {
-            let units = room.units.checked_sub(t.len())?;
-            Some(Room {
-                entries: room.entries,
-                units,
-                bytes: room.bytes,
-            })
-        }
-        None => {
-            let entries = room.entries.checked_sub(rows.size(i))?;
-            let bytes = spend_bytes(rows, i, room.bytes)?;
-            Some(Room {
-                entries,
-                units: room.units,
-                bytes,
-            })
-        }
+        Some(t) => Some(Room {
+            units: room.units.checked_sub(t.len())?,
+            ..room
+        }),
+        None => Some(Room {
+            entries: room.entries.checked_sub(rows.size(i))?,
+            bytes: spend_bytes(rows, i, room.bytes)?,
+            ..room
+        }),
     }
 }
 

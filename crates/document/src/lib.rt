@@ -1,13 +1,14 @@
 #![tactic(auto)]
 
 mod check;
+pub mod checked;
 mod counts;
 pub mod document;
-pub mod find;
 mod heads;
 mod names;
 mod order;
 mod path;
+pub mod rising;
 mod room;
 mod row;
 pub mod rows;

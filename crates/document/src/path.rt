@@ -6,7 +6,7 @@ ghost use Rattle.document.specs.Views.{entry_seen};
 
 use crate::document::Document;
 use crate::order::same;
-use crate::step::{PathAnswer, PathStep};
+use crate::step::{PathError, PathStep};
 use crate::view::Entry;
 use types::bounds::PATH_STEPS;
 use types::types::ObjId;
@@ -27,9 +27,7 @@ fn seek<D: Document>(doc: &D, row: ObjId, id: ObjId) -> Option<usize>
     ensures { Sought (find (D.rows doc.now).doc (rank row)) (rank id) result }
 {
     for n in 0..doc.size(row) {
-        let Some(e) = doc.entry(row, n) else {
-            return None;
-        };
+        let e = doc.entry(row, n)?;
         if names(e, id) {
             return Some(n);
         }
@@ -70,17 +68,12 @@ fn climb<D: Document>(doc: &D, id: ObjId, steps: &mut [PathStep]) -> Option<usiz
 
 // The path of an object: the steps from the root, written into the places
 // that are lent, as many as have one.
-pub fn get_path<D: Document>(doc: &D, id: ObjId, steps: &mut [PathStep]) -> PathAnswer
+pub fn get_path<D: Document>(doc: &D, id: ObjId, steps: &mut [PathStep]) -> Result<usize, PathError>
     ensures { Answered (D.rows doc.now).doc (path_of (D.rows doc.now).doc id) steps.old steps.new result }
 {
-    match climb(doc, id, steps) {
-        None => PathAnswer::NoPath,
-        Some(k) => {
-            if k > PATH_STEPS {
-                PathAnswer::TooDeep
-            } else {
-                PathAnswer::Steps(k)
-            }
-        }
+    let k = climb(doc, id, steps).ok_or(PathError::NoPath)?;
+    if k > PATH_STEPS {
+        return Err(PathError::TooDeep);
     }
+    Ok(k)
 }

@@ -43,22 +43,14 @@ fn is_good(e: Entry) -> bool
 fn is_good_at<R: Rows>(rows: &R, i: usize, n: usize) -> bool
     ensures { result ≡ passes good_pair (entry_told (nth (R.shaped rows.now).doc i) n) }
 {
-    match rows.entry(i, n) {
-        Some(e) => is_good(e),
-        None => true,
-    }
+    rows.entry(i, n).is_none_or(is_good)
 }
 
 // Whether a row's keys and entries are good by themselves.
 fn check_entries<R: Rows>(rows: &R, i: usize) -> bool
     ensures { result ≡ every good_pair (pairs_told (nth (R.shaped rows.now).doc i)) }
 {
-    for n in 0..rows.size(i) {
-        if !is_good_at(rows, i, n) {
-            return false;
-        }
-    }
-    true
+    (0..rows.size(i)).all(|n| is_good_at(rows, i, n))
 }
 
 // Keys compare by bytes.
@@ -81,22 +73,15 @@ fn keys_in_order<R: Rows>(rows: &R, i: usize, n: usize, m: usize) -> bool
 fn check_chain<R: Rows>(rows: &R, i: usize) -> bool
     ensures { result ≡ chained key_before (pairs_told (nth (R.shaped rows.now).doc i)) }
 {
-    for n in 0..rows.size(i) {
-        if !keys_in_order(rows, i, n, n + 1) {
-            return false;
-        }
-    }
-    true
+    (0..rows.size(i)).all(|n| keys_in_order(rows, i, n, n + 1))
 }
 
 // Whether a map's or table's keys rise.
 fn check_keys<R: Rows>(rows: &R, i: usize) -> bool
     ensures { result ≡ keys_told (nth (R.shaped rows.now).doc i) }
 {
-    match rows.head(i) {
-        Some(h) => h.kind.is_sequence() || check_chain(rows, i),
-        None => true,
-    }
+    rows.head(i)
+        .is_none_or(|h| h.kind.is_sequence() || check_chain(rows, i))
 }
 
 // Whether a row is lawful by itself.
@@ -113,10 +98,5 @@ fn check_row<R: Rows>(rows: &R, i: usize) -> bool
 pub fn check_each_row<R: Rows>(rows: &R) -> bool
     ensures { result ≡ every row_ok (R.shaped rows.now).doc }
 {
-    for i in 0..rows.count() {
-        if !check_row(rows, i) {
-            return false;
-        }
-    }
-    true
+    (0..rows.count()).all(|i| check_row(rows, i))
 }

@@ -5,17 +5,17 @@ use Rattle.document.specs.Room.{counts_told}
 use Rattle.document.proofs.Counting.{entries_told_lem, taken_not, taken_is, left_some}
 use Rattle.document.proofs.counts.spend_row.Goals as goal
 
-pub returns-in_err-entries-in-None : goal.returns-in_err-entries-in-None
-returns-in_err-entries-in-None g c =
+pub returns-in_err-checked_sub-in-None : goal.returns-in_err-checked_sub-in-None
+returns-in_err-checked_sub-in-None g c =
     let x = nth (g.R.Rows.shaped c.args.rows.now).doc c.args.i in
     let t = entries_told_lem x c.in-None.ensures in
-    let h : c.args.room.entries < (counts_told x).entry_count = elim (cases_lt c.args.room.entries c.size.result) [ inl m ↦ omega (arith, m, t.0, c.size.ensures) | inr m ↦ absurd (c.in_err-entries-in-None.ensures m) ] in
-    c.from_residual-in_err-entries-in-None.ensures ∙ taken_not c.args.room (counts_told x) (and_left (leb (counts_told x).entry_count c.args.room.entries) _ (lt-leb _ _ h))
+    let h : c.args.room.entries < (counts_told x).entry_count = elim (cases_lt c.args.room.entries c.size.result) [ inl m ↦ omega (arith, m, t.0, c.size.ensures) | inr m ↦ absurd (c.in_err-checked_sub-in-None.ensures m) ] in
+    c.from_residual-in_err-checked_sub-in-None.ensures ∙ taken_not c.args.room (counts_told x) (and_left (leb (counts_told x).entry_count c.args.room.entries) _ (lt-leb _ _ h))
 
-pub returns-in_ok-bytes-in-None : goal.returns-in_ok-bytes-in-None
-returns-in_ok-bytes-in-None g c =
+pub returns-in_ok-spend_bytes-in-None : goal.returns-in_ok-spend_bytes-in-None
+returns-in_ok-spend_bytes-in-None g c =
     let x = nth (g.R.Rows.shaped c.args.rows.now).doc c.args.i in
     let t = entries_told_lem x c.in-None.ensures in
-    let b = left_some c.args.room.bytes (counts_told x).byte_count c.in_ok-bytes-in-None.bytes c.in_ok-bytes-in-None.ensures in
-    let e = c.in_ok-entries-in-None.ensures in
-    taken_is c.args.room (counts_told x) c.in_ok-entries-in-None.entries c.in_ok-bytes-in-None.bytes (omega (arith, e.0, e.1, t.0, c.size.ensures)) t.1 b
+    let b = left_some c.args.room.bytes (counts_told x).byte_count c.in_ok-spend_bytes-in-None.field-0 c.in_ok-spend_bytes-in-None.ensures in
+    let e = c.in_ok-checked_sub-in-None.ensures in
+    taken_is c.args.room (counts_told x) c.in_ok-checked_sub-in-None.field-0 c.in_ok-spend_bytes-in-None.field-0 (omega (arith, e.0, e.1, t.0, c.size.ensures)) t.1 b

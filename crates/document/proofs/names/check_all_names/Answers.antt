@@ -6,15 +6,15 @@ use Rattle.document.proofs.Marking.{none_marked, unmarked, next_clear}
 use Rattle.document.proofs.names.check_all_names.Goals as goal
 
 pub loop-i-init : goal.loop-i-init
-loop-i-init g c = (refl, none_marked (g.R.Rows.shaped c.args.rows.now).doc (nth (g.R.Rows.shaped c.args.rows.now).doc 0) (replicate 1024 false) (unmarked 1024), refl)
+loop-i-init g c = (refl, none_marked (g.R.Rows.shaped c.args.rows.rows.now).doc (nth (g.R.Rows.shaped c.args.rows.rows.now).doc 0) (replicate 1024 false) (unmarked 1024), refl)
 
 pub loop-i-preserved : goal.loop-i-preserved
 loop-i-preserved g c =
-    let d = (g.R.Rows.shaped c.args.rows.now).doc in (
-      omega (arith, c.check_names_at.auto.marks, c.loop-i.invariant.0),
-      next_clear d c.loop-i.i c.check_names_at.new.marks c.requires.rising (c.check_names_at.ensures.later c.if-not-check_names_at.false),
-      every_on (refs_ok d) d c.loop-i.i c.loop-i.invariant.2 c.check_names_at.result c.check_names_at.ensures.test c.if-not-check_names_at.false,
+    let d = (g.R.Rows.shaped c.args.rows.rows.now).doc in (
+      omega (arith, c.check_at.auto.marks, c.loop-i.invariant.0),
+      next_clear d c.loop-i.i c.check_at.new.marks c.args.rows.up (c.check_at.ensures.later c.if-not-check_at.false),
+      every_on (refs_ok d) d c.loop-i.i c.loop-i.invariant.2 c.check_at.result c.check_at.ensures.test c.if-not-check_at.false,
     )
 
 pub returns : goal.returns
-returns g c = every_all (refs_ok (g.R.Rows.shaped c.args.rows.now).doc) (g.R.Rows.shaped c.args.rows.now).doc c.loop-i.i c.loop-i.invariant.2 (omega (arith, c.count-i-end.ensures))
+returns g c = every_all (refs_ok (g.R.Rows.shaped c.args.rows.rows.now).doc) (g.R.Rows.shaped c.args.rows.rows.now).doc c.loop-i.i c.loop-i.invariant.2 (omega (arith, c.count-i-end.ensures))

@@ -6,11 +6,11 @@ use Rattle.document.specs.Places.{nth}
 use Rattle.document.specs.Steps.{pairs_told}
 use Rattle.document.proofs.Pairs.{entry_is, pairs_size}
 use Rattle.document.proofs.Marking.{begins, goes_on, stops, all_named, later}
-use Rattle.document.proofs.names.check_names.Goals as goal
+use Rattle.document.proofs.names.Naming.check.Goals as goal
 
 pub returns-then-not-enter_at : goal.returns-then-not-enter_at
 returns-then-not-enter_at g c =
-    let d = (g.R.Rows.shaped c.args.rows.now).doc in
+    let d = (g.R.Rows.shaped c.args.self.now.rows.rows.now).doc in
     let x = nth d c.args.i in
     record {
       test = stops d (rank c.args.owner) (pairs_told x) c.loop-n.n c.loop-n.marks c.loop-n.invariant c.enter_at.new.marks c.enter_at.result
@@ -20,17 +20,17 @@ returns-then-not-enter_at g c =
 
 pub loop-n-preserved : goal.loop-n-preserved
 loop-n-preserved g c =
-    let d = (g.R.Rows.shaped c.args.rows.now).doc in
+    let d = (g.R.Rows.shaped c.args.self.now.rows.rows.now).doc in
     let x = nth d c.args.i in
     goes_on d (rank c.args.owner) (pairs_told x) c.loop-n.n c.loop-n.marks c.loop-n.invariant c.enter_at.new.marks c.enter_at.result
     (subst (λ p. Enters d (rank c.args.owner) c.loop-n.invariant.seen (refs_at p) c.enter_at.new.marks c.enter_at.result) (entry_is x c.loop-n.n) (c.enter_at.ensures c.loop-n.invariant.seen c.loop-n.invariant.marked)) c.if-not-enter_at.false
 
 pub loop-n-init : goal.loop-n-init
-loop-n-init g c = begins (g.R.Rows.shaped c.args.rows.now).doc (rank c.args.owner) (pairs_told (nth (g.R.Rows.shaped c.args.rows.now).doc c.args.i)) c.args.marks.now c.requires.none
+loop-n-init g c = begins (g.R.Rows.shaped c.args.self.now.rows.rows.now).doc (rank c.args.owner) (pairs_told (nth (g.R.Rows.shaped c.args.self.now.rows.rows.now).doc c.args.i)) c.args.marks.now c.requires
 
 pub returns : goal.returns
 returns g c =
-    let d = (g.R.Rows.shaped c.args.rows.now).doc in
+    let d = (g.R.Rows.shaped c.args.self.now.rows.rows.now).doc in
     let x = nth d c.args.i in
     record {
       test = all_named d (rank c.args.owner) (pairs_told x) c.loop-n.n c.loop-n.marks c.loop-n.invariant (omega (arith, c.size-n-end.ensures, pairs_size x));
