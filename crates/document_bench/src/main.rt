@@ -9,7 +9,7 @@ use record::record::ShelfRecord;
 use std::alloc::{AllocError, Global};
 use std::time::Instant;
 use std::{env, fs};
-use tables::shelf::ShelfTables;
+use tables::shelf::{OpenTables, ShelfTables};
 use tables::table::{Cell, EntryRow, ObjectRow, Window};
 use types::types::{ObjId, ObjType, OpId};
 

@@ -1,7 +1,10 @@
 -- What tables tell at a place.
-use Rattle.std.proofs.Common.{◌≡◌, ℕ, zero, suc, ◌+◌, ◌<◌, ◌≤◌, Bool, true, false, List, [], ◌∷◌, length, get_or, refl, ap, ◌∙◌, subst, arith, length-drop, length-take, get_or-drop, get_or-take}
+use Rattle.std.proofs.Common.{◌≡◌, ℕ, zero, suc, ◌+◌, ◌<◌, ◌≤◌, Bool, true, false, ◌&&◌, Some, None, Option as Answer, List, [], ◌∷◌, length, get_or, sym, refl, ap, ◌∙◌, subst, arith, length-drop, length-take, get_or-drop, get_or-take}
 use mathlib.Core.Option.{none, some}
-use Rattle.std.proofs.lemmas.Bool.{and_parts, leb-true}
+use Rattle.std.specs.Borrow.{Bor}
+use Rattle.std.specs.Slice.{IsItemAt}
+use Rattle.std.specs.List.{list_all}
+use Rattle.std.proofs.lemmas.Bool.{and_parts, leb-true, le-leb}
 use Rattle.types.specs.Identities.{root_id}
 use Rattle.types.specs.declared.types.ObjType.{ObjType}
 use Rattle.types.specs.declared.types.ObjType.TheVariants.{Map, Table, List as Sequence, Text}
@@ -12,7 +15,8 @@ use Rattle.document.proofs.Walks.{nth_past}
 use Rattle.tables.specs.declared.table.Window.{Window}
 use Rattle.tables.specs.declared.table.ObjectRow.{ObjectRow}
 use Rattle.tables.specs.declared.table.EntryRow.{EntryRow}
-use Rattle.tables.specs.declared.table.Cell.TheVariants.{Null}
+use Rattle.types.specs.declared.value.ScalarOf.TheVariants.{Null}
+use Rattle.types.specs.declared.value.ValueOf.TheVariants.{Scalar}
 use Rattle.tables.specs.Tables.{part, entries_of, pairs_of, row_of, obj_of, doc_of, lies, room_of, object_lies, entry_lies, inside}
 use Rattle.tables.specs.Told.{seen_of}
 
@@ -20,7 +24,18 @@ abbrev pub no_row : ObjectRow
 no_row = record { id = root_id; parent = root_id; kind = Map; row = record { from = 0; len = 0 } }
 
 abbrev pub no_entry : EntryRow
-no_entry = record { key = record { from = 0; len = 0 }; cell = Null; id = record { counter = 0; actor = 0 }; conflict = false }
+no_entry = record { key = record { from = 0; len = 0 }; cell = Scalar Null; id = record { counter = 0; actor = 0 }; conflict = false }
+
+-- what `get` says of the item that it lends
+abbrev pub Stands : {X : Type 0} → List X → ℕ → X → Type 0
+Stands {X} xs i x = (i < length xs) × ((d : X) → x ≡ get_or xs i d)
+
+-- windows
+part_length : {X : Type 0} (w : Window) (xs : List X) → w.from + w.len ≤ length xs → length (part w xs) ≡ w.len
+part_length w xs h = simp (length-take, length-drop) (omega arith)
+
+part_at : {X : Type 0} (w : Window) (xs : List X) (n : ℕ) (d : X) → n < w.len → get_or (part w xs) n d ≡ get_or xs (w.from + n) d
+part_at w xs n d h = simp (get_or-take, get_or-drop)
 
 -- every test holds at a place
 all_at : {X : Type 0} (p : X → Bool) (xs : List X) (i : ℕ) (d : X) → every p xs ≡ true → i < length xs → p (get_or xs i d) ≡ true
@@ -29,31 +44,32 @@ all_at p (x ∷ xs) zero d h l = (and_parts (p x) (every p xs) h).0
 all_at p (x ∷ xs) (suc i) d h l = all_at p xs i d (and_parts (p x) (every p xs) h).1 (omega arith)
 
 module _ (os : List ObjectRow) (es : List EntryRow) (bs : List ℕ) (ok : inside os es bs ≡ true) where
-  pub object_lies_lem : (i : ℕ) → i < length os → object_lies (length es) (length bs) (get_or os i no_row) ≡ true
-  object_lies_lem i l = all_at (object_lies (length es) (length bs)) os i no_row (and_parts (every (object_lies (length es) (length bs)) os) (every (entry_lies (length bs)) es) ok).0 l
+  both : (every (object_lies (length es) (length bs)) os ≡ true) × (every (entry_lies (length bs)) es ≡ true)
+  both = and_parts (every (object_lies (length es) (length bs)) os) (every (entry_lies (length bs)) es) ok
 
-  pub entry_lies_lem : (i : ℕ) → i < length es → entry_lies (length bs) (get_or es i no_entry) ≡ true
-  entry_lies_lem i l = all_at (entry_lies (length bs)) es i no_entry (and_parts (every (object_lies (length es) (length bs)) os) (every (entry_lies (length bs)) es) ok).1 l
+  pub object_inside : (i : ℕ) (o : ObjectRow) → Stands os i o → object_lies (length es) (length bs) o ≡ true
+  object_inside i o h = subst (λ o. object_lies (length es) (length bs) o ≡ true) (sym (h.1 no_row)) (all_at (object_lies (length es) (length bs)) os i no_row both.0 h.0)
+
+  pub entry_inside : (w : Window) (n : ℕ) (e : EntryRow) → w.from + w.len ≤ length es → Stands (part w es) n e → entry_lies (length bs) e ≡ true
+  entry_inside w n e f h =
+      let l : n < w.len = omega (arith, h.0, part_length w es f) in
+      subst (λ e. entry_lies (length bs) e ≡ true) (sym (h.1 no_entry ∙ part_at w es n no_entry l)) (all_at (entry_lies (length bs)) es (w.from + n) no_entry both.1 (omega arith))
 
 -- objects
 pub docs_length : (os : List ObjectRow) (es : List EntryRow) (bs : List ℕ) → length (doc_of os es bs) ≡ length os
 docs_length [] es bs = refl
 docs_length (o ∷ os) es bs = ap suc (docs_length os es bs)
 
-pub docs_at : (os : List ObjectRow) (es : List EntryRow) (bs : List ℕ) (i : ℕ) → i < length os → nth (doc_of os es bs) i ≡ some (obj_of es bs (get_or os i no_row))
+docs_at : (os : List ObjectRow) (es : List EntryRow) (bs : List ℕ) (i : ℕ) → i < length os → nth (doc_of os es bs) i ≡ some (obj_of es bs (get_or os i no_row))
 docs_at [] es bs i l = absurd (omega arith)
 docs_at (o ∷ os) es bs zero l = refl
 docs_at (o ∷ os) es bs (suc i) l = docs_at os es bs i (omega arith)
 
+pub docs_here : (os : List ObjectRow) (es : List EntryRow) (bs : List ℕ) (i : ℕ) (o : ObjectRow) → Stands os i o → nth (doc_of os es bs) i ≡ some (obj_of es bs o)
+docs_here os es bs i o h = docs_at os es bs i h.0 ∙ ap (λ o. some (obj_of es bs o)) (sym (h.1 no_row))
+
 pub docs_past : (os : List ObjectRow) (es : List EntryRow) (bs : List ℕ) (i : ℕ) → length os ≤ i → nth (doc_of os es bs) i ≡ none
 docs_past os es bs i l = nth_past (doc_of os es bs) i (omega (arith, docs_length os es bs))
-
--- windows
-part_length : {X : Type 0} (w : Window) (xs : List X) → w.from + w.len ≤ length xs → length (part w xs) ≡ w.len
-part_length w xs h = simp (length-take, length-drop) (omega arith)
-
-part_at : {X : Type 0} (w : Window) (xs : List X) (n : ℕ) (d : X) → n < w.len → get_or (part w xs) n d ≡ get_or xs (w.from + n) d
-part_at w xs n d h = simp (get_or-take, get_or-drop)
 
 -- entries
 abbrev seen_all : ObjType → List ℕ → List EntryRow → List (Key × Entry)
@@ -101,16 +117,18 @@ module _ (es : List EntryRow) (bs : List ℕ) (o : ObjectRow) (ok : object_lies 
     pub row_fits : o.row.from + o.row.len ≤ length es
     row_fits = let e = room_entries o.kind (length es) (length bs) other in omega (arith, fits)
 
-    pub entry_at : (n : ℕ) → n < o.row.len → entry_told (some (obj_of es bs o)) n ≡ some (seen_of o.kind bs (get_or es (o.row.from + n) no_entry))
-    entry_at n l =
-        ap (λ ps. nth ps n) (row_seen o.kind o.row es bs other)
-        ∙ (seen_at o.kind bs (part o.row es) n (omega (arith, part_length o.row es row_fits))
-        ∙ ap (λ e. some (seen_of o.kind bs e)) (part_at o.row es n no_entry l))
+    pub row_lies : lies o.row (length es) ≡ true
+    row_lies = le-leb _ _ row_fits
 
-    pub entry_past : (n : ℕ) → o.row.len ≤ n → entry_told (some (obj_of es bs o)) n ≡ none
+    pub entry_at : (n : ℕ) (e : EntryRow) → Stands (part o.row es) n e → entry_told (some (obj_of es bs o)) n ≡ some (seen_of o.kind bs e)
+    entry_at n e h =
+        ap (λ ps. nth ps n) (row_seen o.kind o.row es bs other)
+        ∙ (seen_at o.kind bs (part o.row es) n h.0 ∙ ap (λ e. some (seen_of o.kind bs e)) (sym (h.1 no_entry)))
+
+    pub entry_past : (n : ℕ) → length (part o.row es) ≤ n → entry_told (some (obj_of es bs o)) n ≡ none
     entry_past n l =
         ap (λ ps. nth ps n) (row_seen o.kind o.row es bs other)
-        ∙ nth_past (seen_all o.kind bs (part o.row es)) n (omega (arith, part_length o.row es row_fits, seen_length o.kind bs (part o.row es)))
+        ∙ nth_past (seen_all o.kind bs (part o.row es)) n (omega (arith, seen_length o.kind bs (part o.row es)))
 
 entries_length : (bs : List ℕ) (es : List EntryRow) → length (entries_of bs es) ≡ length es
 entries_length bs [] = refl
@@ -154,3 +172,13 @@ text_entries es bs o n e = ap (λ k. nth (pairs (row_of k o.row es bs)) n) e ∙
 
 pub text_lies : (es : List EntryRow) (bs : List ℕ) (o : ObjectRow) → object_lies (length es) (length bs) o ≡ true → o.kind ≡ Text → lies o.row (length bs) ≡ true
 text_lies es bs o ok e = subst (λ k. lies o.row (room_of k (length es) (length bs)) ≡ true) e ok
+
+-- how a size is told of what `get` gives
+pub size_got : (os : List ObjectRow) (es : List EntryRow) (bs : List ℕ) (i : ℕ) → inside os es bs ≡ true → (r : Answer (Bor ObjectRow)) → IsItemAt os i r → size_told (nth (doc_of os es bs) i) ≡ elim r [ None ↦ 0 | Some o ↦ o.now.row.len ]
+size_got os es bs i ok None h = ap size_told (docs_past os es bs i h.3)
+size_got os es bs i ok (Some o) h = ap size_told (docs_here os es bs i o.now h.3) ∙ size_at es bs o.now (object_inside os es bs ok i o.now h.3)
+
+-- the library's test of all is this one
+pub every_is : {X : Type 0} (p : X → Bool) (xs : List X) → list_all p xs ≡ every p xs
+every_is p [] = refl
+every_is p (x ∷ xs) = ap (λ b. p x && b) (every_is p xs)

@@ -2,30 +2,35 @@
 use Rattle.std.specs.Prelude.{ℕ, ◌+◌, Bool, true, ◌&&◌, List, [], ◌∷◌, length, take, drop, nat_le}
 use Rattle.types.specs.declared.types.ObjType.{ObjType}
 use Rattle.types.specs.declared.types.ObjType.TheVariants.{Map, Table, List as Sequence, Text}
-use Rattle.meaning.specs.Entries.{Key, null, boolean, int, uint, timestamp, counter, str, bytes as byte_string, Content, scalar_of, object_of, Entry}
+use Rattle.meaning.specs.Entries.{Key, Scalar, null, boolean, int, uint, timestamp, counter, str, bytes as byte_string, Content, scalar_of, object_of, Entry}
 use Rattle.meaning.specs.Rows.{map_of, list_of, text_of}
 use Rattle.meaning.specs.Documents.{DocRow, Obj, Doc}
 use Rattle.document.specs.Laws.{every}
 use Rattle.tables.specs.declared.table.Window.{Window}
 use Rattle.tables.specs.declared.table.ObjectRow.{ObjectRow}
 use Rattle.tables.specs.declared.table.EntryRow.{EntryRow}
-use Rattle.tables.specs.declared.table.Cell.{Cell}
-use Rattle.tables.specs.declared.table.Cell.TheVariants.{Null, Boolean, Int, Uint, Timestamp, Counter, Str, Bytes, Object}
+use Rattle.types.specs.declared.value.ScalarOf.{ScalarOf}
+use Rattle.types.specs.declared.value.ScalarOf.TheVariants.{Null, Boolean, Int, Uint, Timestamp, Counter, Str, Bytes}
+use Rattle.types.specs.declared.value.ValueOf.{ValueOf}
+use Rattle.types.specs.declared.value.ValueOf.TheVariants.{Object, Scalar as Plain}
 
 -- The part of a list that a window shows.
 abbrev pub part : {X : Type 0} → Window → List X → List X
 part w xs = take w.len (drop w.from xs)
 
-abbrev pub content_of : List ℕ → Cell → Content
-content_of bs Null = scalar_of null
-content_of bs (Boolean b) = scalar_of (boolean b)
-content_of bs (Int n) = scalar_of (int n)
-content_of bs (Uint n) = scalar_of (uint n)
-content_of bs (Timestamp n) = scalar_of (timestamp n)
-content_of bs (Counter n) = scalar_of (counter n)
-content_of bs (Str w) = scalar_of (str (part w bs))
-content_of bs (Bytes w) = scalar_of (byte_string (part w bs))
+abbrev pub scalar_in : List ℕ → ScalarOf Window → Scalar
+scalar_in bs Null = null
+scalar_in bs (Boolean b) = boolean b
+scalar_in bs (Int n) = int n
+scalar_in bs (Uint n) = uint n
+scalar_in bs (Timestamp n) = timestamp n
+scalar_in bs (Counter n) = counter n
+scalar_in bs (Str w) = str (part w bs)
+scalar_in bs (Bytes w) = byte_string (part w bs)
+
+abbrev pub content_of : List ℕ → ValueOf Window → Content
 content_of bs (Object k) = object_of k
+content_of bs (Plain s) = scalar_of (scalar_in bs s)
 
 abbrev pub entry_of : List ℕ → EntryRow → Entry
 entry_of bs e = record { content = content_of bs e.cell; ident = e.id; flag = e.conflict }
@@ -65,16 +70,19 @@ room_of Text entries bytes = bytes
 abbrev pub object_lies : ℕ → ℕ → ObjectRow → Bool
 object_lies entries bytes o = lies o.row (room_of o.kind entries bytes)
 
-abbrev pub cell_lies : ℕ → Cell → Bool
-cell_lies n Null = true
-cell_lies n (Boolean b) = true
-cell_lies n (Int i) = true
-cell_lies n (Uint i) = true
-cell_lies n (Timestamp i) = true
-cell_lies n (Counter i) = true
-cell_lies n (Str w) = lies w n
-cell_lies n (Bytes w) = lies w n
+abbrev pub scalar_lies : ℕ → ScalarOf Window → Bool
+scalar_lies n Null = true
+scalar_lies n (Boolean b) = true
+scalar_lies n (Int i) = true
+scalar_lies n (Uint i) = true
+scalar_lies n (Timestamp i) = true
+scalar_lies n (Counter i) = true
+scalar_lies n (Str w) = lies w n
+scalar_lies n (Bytes w) = lies w n
+
+abbrev pub cell_lies : ℕ → ValueOf Window → Bool
 cell_lies n (Object k) = true
+cell_lies n (Plain s) = scalar_lies n s
 
 abbrev pub entry_lies : ℕ → EntryRow → Bool
 entry_lies n e = lies e.key n && cell_lies n e.cell

@@ -1,7 +1,7 @@
 #![tactic(auto)]
 
 mod places;
-mod rows;
+pub mod rows;
 pub mod shelf;
 pub mod table;
 #[cfg(test)]

@@ -1,15 +1,25 @@
-ghost use Rattle.std.specs.Prelude.{◌≡◌, true};
-ghost use Rattle.document.specs.Laws.{lawful};
-ghost use Rattle.tables.specs.Tables.{doc_of};
-
 use crate::rows::TableRows;
+use crate::table::{EntryRow, ObjectRow};
+use document::checked::Checked;
+use types::error::Refusal;
 
 // A document read from rows that the caller holds.
-#[derive(Clone, Copy)]
-pub struct ShelfTables<'a> {
-    rows: TableRows<'a>,
-    ghost ok: { lawful (doc_of rows.objects.now rows.entries.now rows.bytes.now) ≡ true },
+pub type ShelfTables<'a> = Checked<TableRows<'a>>;
+
+// How shelf tables begin and are filled. A trait, since checked rows are a
+// type of another crate.
+pub trait OpenTables<'a> {
+    // The document that has the root alone, an empty map.
+    fn bare_root() -> Self;
+
+    // Opens the tables, if every window lies inside and the document that
+    // they tell keeps the laws; else it stays as it was.
+    fn open(
+        &mut self,
+        objects: &'a [ObjectRow],
+        entries: &'a [EntryRow],
+        bytes: &'a [u8],
+    ) -> Result<(), Refusal>;
 }
 
 mod opening;
-mod reading;

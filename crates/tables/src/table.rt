@@ -1,4 +1,5 @@
 use types::types::{ObjId, ObjType, OpId};
+use types::value::ValueOf;
 
 // Where a part of a slice lies: its first place, and how many places it has.
 #[derive(Clone, Copy)]
@@ -18,18 +19,7 @@ pub struct ObjectRow {
 }
 
 // What an entry holds; strings and bytes are windows of the bytes.
-#[derive(Clone, Copy)]
-pub enum Cell {
-    Null,
-    Boolean(bool),
-    Int(i64),
-    Uint(u64),
-    Timestamp(i64),
-    Counter(i64),
-    Str(Window),
-    Bytes(Window),
-    Object(ObjType),
-}
+pub type Cell = ValueOf<Window>;
 
 // An entry. Its key is a window of the bytes, which a list does not look at.
 #[derive(Clone, Copy)]

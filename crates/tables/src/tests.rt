@@ -1,7 +1,8 @@
-use crate::shelf::ShelfTables;
+use crate::shelf::{OpenTables, ShelfTables};
 use crate::table::{Cell, EntryRow, ObjectRow, Window};
 use document::document::Document;
 use types::types::{ObjId, ObjType, OpId};
+use types::value::ScalarOf;
 
 const ROOT: ObjId = ObjId(OpId {
     counter: 0,
@@ -28,7 +29,7 @@ const ENTRIES: [EntryRow; 2] = [
     },
     EntryRow {
         key: Window { from: 0, len: 0 },
-        cell: Cell::Str(Window { from: 5, len: 4 }),
+        cell: Cell::Scalar(ScalarOf::Str(Window { from: 5, len: 4 })),
         id: OpId {
             counter: 2,
             actor: 7,
@@ -56,10 +57,8 @@ fn objects(parent: ObjId) -> [ObjectRow; 2] {
 
 // Whether the first entry of an object is flagged and has no key.
 fn begins_flagged<D: Document>(doc: &D, id: ObjId) -> bool {
-    match doc.entry(id, 0) {
-        Some(e) => e.conflict && e.key.is_empty(),
-        None => false,
-    }
+    doc.entry(id, 0)
+        .is_some_and(|e| e.conflict && e.key.is_empty())
 }
 
 #[test]

@@ -1,9 +1,10 @@
 ghost use Rattle.std.specs.Prelude.{◌≡◌, ◌+◌, ◌≤◌, true, length};
 ghost use Rattle.document.specs.Laws.{every};
-ghost use Rattle.tables.specs.Tables.{part, lies, room_of, object_lies, cell_lies, entry_lies, inside};
+ghost use Rattle.tables.specs.Tables.{part, lies, room_of, object_lies, cell_lies, entry_lies};
 
 use crate::table::{Cell, EntryRow, ObjectRow, Window};
 use types::types::ObjType;
+use types::value::ScalarOf;
 
 // Whether a window lies inside a slice of that length.
 fn lies_in(w: Window, len: usize) -> bool
@@ -25,8 +26,7 @@ fn cell_lies(cell: Cell, bytes: usize) -> bool
     ensures { result ≡ cell_lies bytes cell }
 {
     match cell {
-        Cell::Str(w) => lies_in(w, bytes),
-        Cell::Bytes(w) => lies_in(w, bytes),
+        Cell::Scalar(ScalarOf::Str(w) | ScalarOf::Bytes(w)) => lies_in(w, bytes),
         _ => true,
     }
 }
@@ -37,41 +37,24 @@ fn entry_lies(e: EntryRow, bytes: usize) -> bool
     lies_in(e.key, bytes) && cell_lies(e.cell, bytes)
 }
 
-fn objects_lie(objects: &[ObjectRow], entries: usize, bytes: usize) -> bool
+// Whether every row of the objects lies in tables of those lengths.
+pub fn objects_lie(objects: &[ObjectRow], entries: usize, bytes: usize) -> bool
     ensures { result ≡ every (object_lies entries bytes) objects.now }
 {
-    for o in objects {
-        if !object_lies(*o, entries, bytes) {
-            return false;
-        }
-    }
-    true
+    objects.iter().all(|o| object_lies(*o, entries, bytes))
 }
 
-fn entries_lie(entries: &[EntryRow], bytes: usize) -> bool
+// Whether every key, string and byte string lies in that many bytes.
+pub fn entries_lie(entries: &[EntryRow], bytes: usize) -> bool
     ensures { result ≡ every (entry_lies bytes) entries.now }
 {
-    for e in entries {
-        if !entry_lies(*e, bytes) {
-            return false;
-        }
-    }
-    true
+    entries.iter().all(|e| entry_lies(*e, bytes))
 }
 
-// Whether every window of the tables lies inside.
-pub fn lie_inside(objects: &[ObjectRow], entries: &[EntryRow], bytes: &[u8]) -> bool
-    ensures { result ≡ inside objects.now entries.now bytes.now }
+// The part that a window shows.
+pub fn shown<T>(items: &[T], w: Window) -> &[T]
+    requires { lies w (length items.now) ≡ true }
+    ensures { result.now ≡ part w items.now }
 {
-    objects_lie(objects, entries.len(), bytes.len()) && entries_lie(entries, bytes.len())
-}
-
-// The bytes that a window shows.
-pub fn shown(bytes: &[u8], w: Window) -> &[u8]
-    requires { lies w (length bytes.now) ≡ true }
-    ensures { result.now ≡ part w bytes.now }
-{
-    let from = w.from;
-    let end = from + w.len;
-    &bytes[from..end]
+    &items[w.from..w.from + w.len]
 }

@@ -1,75 +1,66 @@
-use Rattle.std.proofs.Common.{◌+◌, get_or, sym, ap, ◌∙◌, arith}
+use Rattle.std.proofs.Common.{◌≤◌, length, sym, ap, ◌∙◌, subst}
 use mathlib.Core.Option.{Option, some}
 use Rattle.meaning.specs.Entries.{Key, Entry}
 use Rattle.document.specs.Places.{entry_told}
-use Rattle.tables.proofs.Telling.{no_row, docs_at, docs_past, object_lies_lem, entry_lies_lem, row_fits, entry_at, entry_past, text_entries}
+use Rattle.document.specs.Views.{an_entry_seen}
+use Rattle.tables.specs.Tables.{part}
+use Rattle.tables.proofs.Telling.{Stands, docs_here, docs_past, object_inside, entry_inside, row_fits, row_lies, entry_at, entry_past, text_entries}
 use Rattle.tables.proofs.places.TableRowsRows.entry.Goals as goal
 
-pub returns-then-i-self : goal.returns-then-i-self
-returns-then-i-self c = sym (ap (λ x. entry_told x c.args.n) (docs_past c.args.self.now.objects.now c.args.self.now.entries.now c.args.self.now.bytes.now c.args.i c.if-i-self.true))
+pub returns-in_err-object : goal.returns-in_err-object
+returns-in_err-object c = ap an_entry_seen c.from_residual.ensures ∙ sym (ap (λ x. entry_told x c.args.n) (docs_past c.args.self.now.objects.now c.args.self.now.entries.now c.args.self.now.bytes.now c.args.i c.in_err-object.ensures.lookup.3))
 
-pub returns-then-n-o : goal.returns-then-n-o
-returns-then-n-o c =
+pub returns-in_err-entry-in_default : goal.returns-in_err-entry-in_default
+returns-in_err-entry-in_default c =
     let os = c.args.self.now.objects.now in
     let es = c.args.self.now.entries.now in
     let bs = c.args.self.now.bytes.now in
-    let o = get_or os c.args.i no_row in
-    let ok = object_lies_lem os es bs c.args.self.now.within c.args.i c.if-i-self.false in
-    sym (ap (λ x. entry_told x c.args.n) (docs_at os es bs c.args.i c.if-i-self.false) ∙ entry_past es bs o ok c.in_default.not-Text c.args.n c.if-n-o.true)
+    let o = c.in_ok-object.object.now in
+    let here = c.in_ok-object.ensures.lookup.3 in
+    let ok = object_inside os es bs c.args.self.now.within c.args.i o here in
+    let past = subst (λ xs. length xs ≤ c.args.n) c.shown.ensures c.in_err-entry-in_default.ensures.lookup.3 in
+    ap an_entry_seen c.from_residual-in_err-entry-in_default.ensures
+    ∙ sym (ap (λ x. entry_told x c.args.n) (docs_here os es bs c.args.i o here) ∙ entry_past es bs o ok c.in_default.not-Text c.args.n past)
 
-pub overflow_add-o : goal.overflow_add-o
-overflow_add-o c =
+pub shown-requires : goal.shown-requires
+shown-requires c =
     let os = c.args.self.now.objects.now in
     let es = c.args.self.now.entries.now in
     let bs = c.args.self.now.bytes.now in
-    let o = get_or os c.args.i no_row in
-    let ok = object_lies_lem os es bs c.args.self.now.within c.args.i c.if-i-self.false in
-    let f = row_fits es bs o ok c.in_default.not-Text in
-    omega (arith, f)
-
-pub offset_bounds-self-o : goal.offset_bounds-self-o
-offset_bounds-self-o c =
-    let os = c.args.self.now.objects.now in
-    let es = c.args.self.now.entries.now in
-    let bs = c.args.self.now.bytes.now in
-    let o = get_or os c.args.i no_row in
-    let ok = object_lies_lem os es bs c.args.self.now.within c.args.i c.if-i-self.false in
-    let f = row_fits es bs o ok c.in_default.not-Text in
-    omega (arith, f)
-
-pub bounds-self-o : goal.bounds-self-o
-bounds-self-o c =
-    let os = c.args.self.now.objects.now in
-    let es = c.args.self.now.entries.now in
-    let bs = c.args.self.now.bytes.now in
-    let o = get_or os c.args.i no_row in
-    let ok = object_lies_lem os es bs c.args.self.now.within c.args.i c.if-i-self.false in
-    let f = row_fits es bs o ok c.in_default.not-Text in
-    omega (arith, f)
+    let o = c.in_ok-object.object.now in
+    let here = c.in_ok-object.ensures.lookup.3 in
+    row_lies es bs o (object_inside os es bs c.args.self.now.within c.args.i o here) c.in_default.not-Text
 
 pub entry_over-requires : goal.entry_over-requires
 entry_over-requires c =
     let os = c.args.self.now.objects.now in
     let es = c.args.self.now.entries.now in
     let bs = c.args.self.now.bytes.now in
-    let o = get_or os c.args.i no_row in
-    let ok = object_lies_lem os es bs c.args.self.now.within c.args.i c.if-i-self.false in
-    let f = row_fits es bs o ok c.in_default.not-Text in
-    entry_lies_lem os es bs c.args.self.now.within (o.row.from + c.args.n) (omega (arith, f))
+    let o = c.in_ok-object.object.now in
+    let here = c.in_ok-object.ensures.lookup.3 in
+    let ok = object_inside os es bs c.args.self.now.within c.args.i o here in
+    let e = c.in_ok-entry-in_default.entry.now in
+    let at : Stands (part o.row es) c.args.n e = subst (λ xs. Stands xs c.args.n e) c.shown.ensures c.in_ok-entry-in_default.ensures.lookup.3 in
+    entry_inside os es bs c.args.self.now.within o.row c.args.n e (row_fits es bs o ok c.in_default.not-Text) at
 
 pub returns-in-Text : goal.returns-in-Text
 returns-in-Text c =
     let os = c.args.self.now.objects.now in
     let es = c.args.self.now.entries.now in
     let bs = c.args.self.now.bytes.now in
-    sym (ap (λ x. entry_told x c.args.n) (docs_at os es bs c.args.i c.if-i-self.false) ∙ text_entries es bs (get_or os c.args.i no_row) c.args.n c.in-Text.is)
+    let o = c.in_ok-object.object.now in
+    let here = c.in_ok-object.ensures.lookup.3 in
+    sym (ap (λ x. entry_told x c.args.n) (docs_here os es bs c.args.i o here) ∙ text_entries es bs o c.args.n c.in-Text.is)
 
-pub returns-else-n-o : goal.returns-else-n-o
-returns-else-n-o c =
+pub returns-in_ok-entry-in_default : goal.returns-in_ok-entry-in_default
+returns-in_ok-entry-in_default c =
     let os = c.args.self.now.objects.now in
     let es = c.args.self.now.entries.now in
     let bs = c.args.self.now.bytes.now in
-    let o = get_or os c.args.i no_row in
-    let ok = object_lies_lem os es bs c.args.self.now.within c.args.i c.if-i-self.false in
+    let o = c.in_ok-object.object.now in
+    let here = c.in_ok-object.ensures.lookup.3 in
+    let ok = object_inside os es bs c.args.self.now.within c.args.i o here in
+    let e = c.in_ok-entry-in_default.entry.now in
+    let at : Stands (part o.row es) c.args.n e = subst (λ xs. Stands xs c.args.n e) c.shown.ensures c.in_ok-entry-in_default.ensures.lookup.3 in
     ap {B = Option (Key × Entry)} (λ p. some p) c.entry_over.ensures
-    ∙ sym (ap (λ x. entry_told x c.args.n) (docs_at os es bs c.args.i c.if-i-self.false) ∙ entry_at es bs o ok c.in_default.not-Text c.args.n c.if-n-o.false)
+    ∙ sym (ap (λ x. entry_told x c.args.n) (docs_here os es bs c.args.i o here) ∙ entry_at es bs o ok c.in_default.not-Text c.args.n e at)
