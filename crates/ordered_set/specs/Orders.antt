@@ -34,6 +34,10 @@ lawful {R = R} o =
       alike = o.congr;
     }
 
+-- the library's laws of an order's comparison
+pub total : {X : Type 0} (o : Order X) → IsTotalOrder o.compare
+total o = record { antisymm = λ a b. o.flip b a; trans = o.trans; congr = o.alike }
+
 -- an order pulled back along a function: items compare as what f gives of them
 abbrev pub by : {X Y : Type 0} → (Y → X) → Order X → Order Y
 by f o =

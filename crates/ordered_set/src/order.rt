@@ -1,14 +1,17 @@
 ghost use Rattle.std.specs.Prelude.{◌≡◌};
-ghost use Rattle.ordered_set.specs.Orders.{Order};
+ghost use Rattle.std.specs.declared.cmp.Ordering.{Ordering};
+ghost use Rattle.std.specs.Cmp.{IsTotalOrder};
 
 use std::cmp::Ordering;
 
-// A total order on items. Its laws ride in the ghost member.
+// A total order on items, whose value may hold what the items stand for.
 pub trait TotalOrder {
     type Item: Copy;
 
-    ghost order: { Self → Order Self.Item };
+    ghost order: { Self → Self.Item → Self.Item → Ordering };
 
     fn compare(&self, a: Self::Item, b: Self::Item) -> Ordering
-        ensures { result ≡ (order self.now).compare a b };
+        ensures { result ≡ order self.now a b };
+
+    ghost total: { (s : Self) → IsTotalOrder (order s) };
 }

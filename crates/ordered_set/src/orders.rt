@@ -1,52 +1,55 @@
 // The orders of identities and of keys.
 ghost use Rattle.std.specs.Prelude.{◌≡◌};
-ghost use Rattle.ordered_set.specs.Orders.{by_id, by_object, by_bytes};
+ghost use Rattle.ordered_set.specs.Orders.{by_bytes, by_id, by_object, total};
 ghost use Rattle.ordered_set.specs.Keys.{key_of, by_key};
 
 use crate::order::TotalOrder;
 use packed_rows::rows::row_of;
 use std::cmp::Ordering;
+use std::marker::PhantomData;
 use types::types::{ObjId, OpId};
 
-// Identities of entries: by counter, then by actor.
+// The order that a type has of its own.
 #[derive(Clone, Copy)]
-pub struct OpIdOrder;
+pub struct Ascending<T> {
+    pub of: PhantomData<T>,
+}
 
-impl TotalOrder for OpIdOrder {
-    type Item = OpId;
+impl<T: Ord + Copy> TotalOrder for Ascending<T> {
+    type Item = T;
 
-    ghost order = { λ _. by_id };
+    ghost order = { λ _. T.cmp };
 
-    fn compare(&self, a: OpId, b: OpId) -> Ordering {
-        a.compare(b)
+    fn compare(&self, a: T, b: T) -> Ordering {
+        a.cmp(&b)
     }
+
+    ghost total = { λ _. T.Ord.total };
+}
+
+pub type OpIdOrder = Ascending<OpId>;
+
+pub type ObjIdOrder = Ascending<ObjId>;
+
+// Identities of entries: by counter, then by actor.
+pub fn op_id_order() -> OpIdOrder
+    ensures { (a b : OpId) → ⟦<OpIdOrder as TotalOrder>⟧.order result a b ≡ by_id.compare a b }
+{
+    Ascending { of: PhantomData }
 }
 
 // Identities of objects, likewise.
-#[derive(Clone, Copy)]
-pub struct ObjIdOrder;
-
-impl TotalOrder for ObjIdOrder {
-    type Item = ObjId;
-
-    ghost order = { λ _. by_object };
-
-    fn compare(&self, a: ObjId, b: ObjId) -> Ordering {
-        a.0.compare(b.0)
-    }
-}
-
-fn cmp_bytes(a: &[u8], b: &[u8]) -> Ordering
-    ensures { result ≡ by_bytes.compare a.now b.now }
+pub fn obj_id_order() -> ObjIdOrder
+    ensures { (a b : ObjId) → ⟦<ObjIdOrder as TotalOrder>⟧.order result a b ≡ by_object.compare a b }
 {
-    a.cmp(&b)
+    Ascending { of: PhantomData }
 }
 
 // Two keys by their bytes.
 pub fn compare_keys(a: &[u8], b: &[u8]) -> Ordering
     ensures { result ≡ by_bytes.compare a.now b.now }
 {
-    cmp_bytes(a, b)
+    a.cmp(b)
 }
 
 // Keys that lie in packed rows of bytes: an item is the number of its row. The number SOUGHT
@@ -75,9 +78,11 @@ impl<'a> KeyOrder<'a> {
 impl TotalOrder for KeyOrder<'_> {
     type Item = u32;
 
-    ghost order = { λ k. by_key k.starts.now k.bytes.now k.sought.now };
+    ghost order = { λ k. (by_key k.starts.now k.bytes.now k.sought.now).compare };
 
     fn compare(&self, a: u32, b: u32) -> Ordering {
         compare_keys(self.key(a), self.key(b))
     }
+
+    ghost total = { λ k. total (by_key k.starts.now k.bytes.now k.sought.now) };
 }

@@ -7,43 +7,13 @@ ghost use Rattle.ordered_set.specs.Sets.{Rising, has, before, found, members, Or
 use crate::order::TotalOrder;
 use sequence_tree::error::SequenceError;
 use sequence_tree::places::{insert_one, remove_one};
-use std::cmp::Ordering;
 
 // Where x stands among items that rise, or where it would go.
 pub fn find<O: TotalOrder>(order: &O, items: &[O::Item], x: O::Item) -> Result<usize, usize>
     requires { Rising (O.TotalOrder.order order.now) items.now }
     ensures { result ≡ found (O.TotalOrder.order order.now) x items.now }
 {
-    let mut low = 0;
-    let mut high = items.len();
-    while low < high {
-        let mid = low + (high - low) / 2;
-        match order.compare(items[mid], x) {
-            Ordering::Less => low = mid + 1,
-            Ordering::Greater => high = mid,
-            Ordering::Equal => return Ok(mid),
-        }
-    }
-    Err(low)
-}
-
-// The first n places.
-fn front_of<T>(places: &[T], n: usize) -> &[T]
-    requires { n ≤ length places.now }
-    ensures { result.now ≡ take n places.now }
-{
-    &places[0..n]
-}
-
-// The first of the first n places.
-fn first_of<T: Copy>(places: &[T], n: usize) -> Option<T>
-    requires { n ≤ length places.now }
-    ensures { result ≡ slice_get (take n places.now) 0 }
-{
-    if n == 0 {
-        return None;
-    }
-    Some(places[0])
+    items.binary_search_by(|item| order.compare(*item, x))
 }
 
 // How many of the places, which each call is lent, an ordered set has in use.
@@ -63,8 +33,7 @@ impl OrderedSet {
     pub fn len(&self) -> usize
         ensures { result ≡ self.now.len }
     {
-        let OrderedSet { len } = *self;
-        len
+        self.len
     }
 
     // Where x stands, or where it would go.
@@ -77,7 +46,7 @@ impl OrderedSet {
         requires { Ordered (O.TotalOrder.order order.now) self.now places.now }
         ensures { result ≡ found (O.TotalOrder.order order.now) x (members self.now places.now) }
     {
-        find(order, front_of(places, self.len), x)
+        find(order, &places[..self.len], x)
     }
 
     pub fn contains<O: TotalOrder>(&self, order: &O, places: &[O::Item], x: O::Item) -> bool
@@ -100,17 +69,15 @@ impl OrderedSet {
         ensures members { members self.new places.new ≡ put (O.TotalOrder.order order.now) x (members self.old places.old) (length places.old) }
         ensures with { is_ok result ≡ true → With (O.TotalOrder.order order.now) x (members self.old places.old) (members self.new places.new) }
     {
-        match self.find(order, places, x) {
-            Ok(_) => Ok(false),
-            Err(at) => {
-                if self.len >= places.len() {
-                    return Err(SequenceError::Full);
-                }
-                insert_one(places, self.len, at, x);
-                self.len += 1;
-                Ok(true)
-            }
+        let Err(at) = self.find(order, places, x) else {
+            return Ok(false);
+        };
+        if self.len >= places.len() {
+            return Err(SequenceError::Full);
         }
+        insert_one(places, self.len, at, x);
+        self.len += 1;
+        Ok(true)
     }
 
     // Takes x out: whether it was there.
@@ -121,14 +88,12 @@ impl OrderedSet {
         ensures members { members self.new places.new ≡ (if result then spliced (members self.old places.old) (before (O.TotalOrder.order order.now) x (members self.old places.old)) 1 [] else members self.old places.old) }
         ensures without { Without (O.TotalOrder.order order.now) x (members self.old places.old) (members self.new places.new) }
     {
-        match self.find(order, places, x) {
-            Err(_) => false,
-            Ok(at) => {
-                remove_one(places, self.len, at);
-                self.len -= 1;
-                true
-            }
-        }
+        let Ok(at) = self.find(order, places, x) else {
+            return false;
+        };
+        remove_one(places, self.len, at);
+        self.len -= 1;
+        true
     }
 
     // The least.
@@ -136,20 +101,7 @@ impl OrderedSet {
         requires { self.now.len ≤ length places.now }
         ensures { result ≡ slice_get (members self.now places.now) 0 }
     {
-        first_of(places, self.len)
-    }
-
-    // What comes after the least is left.
-    fn drop_first<T: Copy>(&mut self, places: &mut [T])
-        requires { self.old.len ≤ length places.old }
-        ensures fits { self.new.len ≤ length places.new }
-        ensures members { members self.new places.new ≡ spliced (members self.old places.old) 0 1 [] }
-        ensures ordered { (o : Order T) → Ordered o self.old places.old → Ordered o self.new places.new }
-    {
-        if self.len > 0 {
-            remove_one(places, self.len, 0);
-            self.len -= 1;
-        }
+        places[..self.len].first().copied()
     }
 
     // Takes the least out.
@@ -158,10 +110,11 @@ impl OrderedSet {
         ensures answer { result ≡ slice_get (members self.old places.old) 0 }
         ensures fits { self.new.len ≤ length places.new }
         ensures members { members self.new places.new ≡ spliced (members self.old places.old) 0 1 [] }
-        ensures ordered { (o : Order T) → Ordered o self.old places.old → Ordered o self.new places.new }
+        ensures ordered { (o : Order T) → Ordered o.compare self.old places.old → Ordered o.compare self.new places.new }
     {
-        let least = self.first(places);
-        self.drop_first(places);
-        least
+        let least = self.first(places)?;
+        remove_one(places, self.len, 0);
+        self.len -= 1;
+        Some(least)
     }
 }

@@ -1,4 +1,4 @@
-use crate::orders::{KeyOrder, ObjIdOrder, SOUGHT};
+use crate::orders::{KeyOrder, SOUGHT, obj_id_order};
 use crate::set::{OrderedSet, find};
 use types::types::{ObjId, OpId};
 
@@ -14,12 +14,12 @@ fn serves_as_a_queue(rt: HostRuntime) {
     });
     let mut places = [ObjId::root(); 2];
     let mut queue = OrderedSet::new();
-    assert!(rt; queue.insert(&ObjIdOrder, &mut places, last).is_ok());
-    assert!(rt; queue.insert(&ObjIdOrder, &mut places, first).is_ok());
-    assert!(rt; queue.insert(&ObjIdOrder, &mut places, last).is_ok());
+    assert!(rt; queue.insert(&obj_id_order(), &mut places, last).is_ok());
+    assert!(rt; queue.insert(&obj_id_order(), &mut places, first).is_ok());
+    assert!(rt; queue.insert(&obj_id_order(), &mut places, last).is_ok());
     assert!(rt;
         queue
-            .insert(&ObjIdOrder, &mut places, ObjId::root())
+            .insert(&obj_id_order(), &mut places, ObjId::root())
             .is_err()
     );
     assert_eq!(rt; queue.remove_first(&mut places), Some(first));
