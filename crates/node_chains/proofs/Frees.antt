@@ -75,8 +75,8 @@ starts_going f i d n nodes t s M e = record {
   freed = λ w. rw (drop_all n (row t s i) (omega arith)) (omega arith);
 }
 
-pub ends_going : (f i d n : ℕ) (nodes0 nodes : List Node) (t0 s0 t s : List ℕ) → Placing f nodes0 t0 s0 → i < f → 17 ≤ lev_at nodes0 i + d → Going f i (d - 1) n nodes0 nodes t0 s0 t s → n ≤ 0 → Emptied f i d nodes0 nodes t0 s0 t s
-ends_going f i d n nodes0 nodes t0 s0 t s M0 ii dp G e =
+pub ends_going : {f i d n : ℕ} {nodes0 nodes : List Node} {t0 s0 t s : List ℕ} → Placing f nodes0 t0 s0 → i < f → 17 ≤ lev_at nodes0 i + d → Going f i (d - 1) n nodes0 nodes t0 s0 t s → n ≤ 0 → Emptied f i d nodes0 nodes t0 s0 t s
+ends_going {f} {i} {d} {n} {nodes0} {nodes} {t0} {s0} {t} {s} M0 ii dp G e =
     let z : n ≡ 0 = omega arith in record {
       empty = G.left ∙ ap (λ k. take k (row t0 s0 i)) z;
       itself = G.itself;
@@ -89,7 +89,7 @@ ends_going f i d n nodes0 nodes t0 s0 t s M0 ii dp G e =
     }
 
 -- one turn: of n children left, the last is emptied and then freed
-module _ (f i d n : ℕ) (nodes0 nodes : List Node) (t0 s0 t s : List ℕ) (M0 : Placing f nodes0 t0 s0) (ii : i < f) (ui : up_at nodes0 i ≡ f → ⊥)
+module _ {f i d n : ℕ} {nodes0 nodes : List Node} {t0 s0 t s : List ℕ} (M0 : Placing f nodes0 t0 s0) (ii : i < f) (ui : up_at nodes0 i ≡ f → ⊥)
     (G : Going f i d n nodes0 nodes t0 s0 t s) (m : 0 < n) where
   pub len_i : length (row t s i) ≡ n
   len_i = ap length G.left ∙ length-take-le n (row t0 s0 i) G.fewer
@@ -156,7 +156,7 @@ module _ (f i d n : ℕ) (nodes0 nodes : List Node) (t0 s0 t s : List ℕ) (M0 :
       d (get_or (row t0 s0 i) (n - 1) 0)
       (λ qs st. ⊎_elim (low_child qs st) (⊎_elim (apart qs st).0 (λ w. (apart qs st).1 w.0 w.1 w.2 w.3)))
 
-  module _ (nodes1 : List Node) (t1 s1 : List ℕ) (E : Emptied f child d nodes nodes1 t s t1 s1) where
+  module _ {nodes1 : List Node} {t1 s1 : List ℕ} (E : Emptied f child d nodes nodes1 t s t1 s1) where
     pub row1_i : row t1 s1 i ≡ row t s i
     row1_i = E.rows_at i (λ e. omega arith) above_child
 
@@ -175,7 +175,7 @@ module _ (f i d n : ℕ) (nodes0 nodes : List Node) (t0 s0 t s : List ℕ) (M0 :
     pub up1 : up_at nodes1 i ≡ f → ⊥
     up1 e = ui (ap (λ (y : Node). y.parent) (sym node1_i) ∙ e)
 
-    module _ (nodes2 : List Node) (t2 s2 : List ℕ) (M2 : Placing f nodes2 t2 s2) (V : Freed f i (n - 1) nodes1 nodes2 t1 s1 t2 s2) where
+    module _ {nodes2 : List Node} {t2 s2 : List ℕ} (M2 : Placing f nodes2 t2 s2) (V : Freed f i (n - 1) nodes1 nodes2 t1 s1 t2 s2) where
       row2_i : row t2 s2 i ≡ take (n - 1) (row t0 s0 i)
       row2_i =
           V.from ∙ ap (λ xs. spliced xs (n - 1) 1 []) row1_i ∙ cut_last (row t s i) (n - 1) (omega (arith, len_i))
@@ -232,17 +232,8 @@ module _ (f i d n : ℕ) (nodes0 nodes : List Node) (t0 s0 t s : List ℕ) (M0 :
           differs : (x : ℕ) → ((q : ℕ) → n - 1 ≤ q → q < length (row t0 s0 i) → Under (row t0 s0) (get_or (row t0 s0 i) q 0) x → ⊥) → x ≡ get_or (row t1 s1 i) (n - 1) 0 → ⊥
           differs x h e = out x h ([], tt, sym (e ∙ child1))
 
--- a child that was emptied, by either way
-pub record After (f c d : ℕ) (nodes nodes1 : List Node) (t s t1 s1 : List ℕ) : Type 0 where
-  pub lawful : Placing f nodes1 t1 s1
-  pub emptied : Emptied f c d nodes nodes1 t s t1 s1
-
-pub after : (f c c' d : ℕ) (nodes nodes1 nodes1' : List Node) (t s t1 s1 t1' s1' : List ℕ) → nodes1 ≡ nodes1' → t1 ≡ t1' → s1 ≡ s1' → c' ≡ c
-    → Placing f nodes1' t1' s1' → Emptied f c' d nodes nodes1' t s t1' s1' → After f c d nodes nodes1 t s t1 s1
-after f c c' d nodes nodes1 nodes1' t s t1 s1 t1' s1' en et es e m h = rw (en, et, es) (record { lawful = m; emptied = subst (λ x. Emptied f x d nodes nodes1' t s t1' s1') e h })
-
 -- the child k of o, emptied and then freed
-module _ (f o k : ℕ) (nodes nodes1 nodes2 : List Node) (t s t1 s1 t2 s2 : List ℕ) (M : Placing f nodes t s) (io : o < f) (m : k < length (row t s o))
+module _ {f o k : ℕ} {nodes nodes1 : List Node} {t s t1 s1 : List ℕ} (M : Placing f nodes t s) (io : o < f) (m : k < length (row t s o))
     (E : Emptied f (get_or (row t s o) k 0) 17 nodes nodes1 t s t1 s1) where
   not_above : Under (row t s) (get_or (row t s o) k 0) o → ⊥
   not_above u =
@@ -256,8 +247,8 @@ module _ (f o k : ℕ) (nodes nodes1 nodes2 : List Node) (t s t1 s1 t2 s2 : List
   pub node1_o : get_or nodes1 o blank ≡ get_or nodes o blank
   node1_o = E.nodes_at o not_above
 
-  pub unlinks : Freed f o k nodes1 nodes2 t1 s1 t2 s2 → Unlinked f o k nodes nodes2 t s t2 s2
-  unlinks V =
+  pub unlinks : {nodes2 : List Node} {t2 s2 : List ℕ} → Freed f o k nodes1 nodes2 t1 s1 t2 s2 → Unlinked f o k nodes nodes2 t s t2 s2
+  unlinks {nodes2} {t2} {s2} V =
       let was : get_or (row t1 s1 o) k 0 ≡ get_or (row t s o) k 0 = ap (λ xs. get_or xs k 0) row1_o in
       let to : row t2 s2 f ≡ row t1 s1 f ++ (get_or (row t s o) k 0 ∷ []) = V.to ∙ put_last (row t1 s1 f) (get_or (row t1 s1 o) k 0) ∙ ap (λ x. row t1 s1 f ++ (x ∷ [])) was in
       record {

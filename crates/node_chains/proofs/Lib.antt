@@ -4,3 +4,5 @@ pub mod Moves
 pub mod Frees
 pub mod Deletes
 pub mod Weights
+pub mod Items
+pub mod Sizes

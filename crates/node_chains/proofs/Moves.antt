@@ -52,14 +52,14 @@ module _ (f a k b at new : ℕ) (item : Item) (nodes : List Node) (t s t1 s1 t2 
   new_bare : row t s new ≡ []
   new_bare = ap (row t s) is ∙ bn
 
-  pub moved_is : Moved a k b at new item nodes nodes2 t s t2 s2
+  moved_is : Moved a k b at new item nodes nodes2 t s t2 s2
   moved_is = record { was = is; from = row_a; to = row_b; others = row_x; itself = new_node; rest = old_node }
 
   origin : (i p : ℕ) → p < length (row t2 s2 i) → New (row t2 s2) new b at i p ⊎ Old (row t s) (row t2 s2) a k new b at i p
   origin = from (row t s) (row t2 s2) (up_at nodes) (up_at nodes2) (lev_at nodes) (lev_at nodes2) a k new b at M.shape m (sym is) new_bare
       ba ub l row_a row_b row_x (ap (λ (x : Node). x.parent) new_node) (λ x ne. ap (λ (y : Node). y.parent) (old_node x ne)) (ap (λ (x : Node). x.depth) new_node) (λ x ne. ap (λ (y : Node). y.depth) (old_node x ne))
 
-  pub placing_moved : Placing f nodes2 t2 s2
+  placing_moved : Placing f nodes2 t2 s2
   placing_moved = record {
     packed = S2.lawful;
     count = length-set nodes new _ ∙ M.count;
@@ -96,3 +96,6 @@ module _ (f a k b at new : ℕ) (item : Item) (nodes : List Node) (t s t1 s1 t2 
       not_new : (i p : ℕ) → p < length (row t2 s2 i) → i ≡ new → ⊥
       not_new = not_i_n (row t s) (row t2 s2) (up_at nodes) (up_at nodes2) (lev_at nodes) (lev_at nodes2) a k new b at M.shape m (sym is) new_bare
           ba ub l row_a row_b row_x (ap (λ (x : Node). x.parent) new_node) (λ x ne. ap (λ (y : Node). y.parent) (old_node x ne)) (ap (λ (x : Node). x.depth) new_node) (λ x ne. ap (λ (y : Node). y.depth) (old_node x ne))
+
+  pub relinked : Placing f nodes2 t2 s2 × Moved a k b at new item nodes nodes2 t s t2 s2
+  relinked = (placing_moved, moved_is)

@@ -1,3 +1,4 @@
 pub mod Contents
 pub mod Tree
 pub mod Chains
+pub mod Changes

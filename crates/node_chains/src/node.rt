@@ -22,10 +22,7 @@ impl Content {
     pub fn is_map(self) -> bool
         ensures { result ≡ is_map self }
     {
-        match self {
-            Content::Map => true,
-            _ => false,
-        }
+        matches!(self, Content::Map)
     }
 }
 
