@@ -12,3 +12,4 @@ pub mod KeyOrder
 pub mod Finds
 pub mod Bridges
 pub mod Counting
+pub mod Steps

@@ -1,11 +1,11 @@
 -- What a node holds replaced.
-use Rattle.std.proofs.Common.{◌≡◌, ℕ, zero, suc, ◌+◌, ◌-◌, ◌*◌, ◌<◌, ◌≤◌, Bool, ◌⊎◌, List, [], ◌∷◌, length, get_or, set, sym, refl, ap, ◌∙◌, subst, inl, inr, ⊎_elim, arith}
+use Rattle.std.proofs.Common.{◌≡◌, ℕ, zero, suc, ◌+◌, ◌-◌, ◌*◌, ◌<◌, ◌≤◌, Bool, ◌⊎◌, List, [], ◌∷◌, length, get_or, sym, refl, ap, ◌∙◌, subst, inl, inr, ⊎_elim, arith}
 use Rattle.std.proofs.lemmas.Bool.{cases_eq, cases_lt}
 use Rattle.sequence_tree.specs.Lists.{Replaced}
 use Rattle.packed_rows.specs.Rows.{row}
 use Rattle.node_table.specs.Kinds.{is_text}
 use Rattle.node_chains.specs.Tree.{Tree, node, forest, trees, change, update, pruned, relabel, reach, Steps, Under}
-use Rattle.node_chains.specs.Chains.{Placing, Emptied, blank, item_at, up_at, lev_at}
+use Rattle.node_chains.specs.Chains.{Placing, Emptied, item_at, up_at, lev_at}
 use Rattle.node_table.specs.Held.{datum, held, Changed, Cleared, Wiped, item_bytes, Used, Dry, refilled}
 use Rattle.node_chains.specs.declared.node.Content.{Content}
 use Rattle.node_chains.specs.declared.node.Item.{Item}
@@ -14,7 +14,9 @@ use Rattle.node_chains.proofs.Frames.{depth, trees_forest}
 use Rattle.node_table.proofs.Sums.{below_part}
 use Rattle.node_table.proofs.Inserts.{used_high, slot_new, slot_other}
 use Rattle.node_table.proofs.Removes.{not_under, used_bare, dry_bare, changed_bare}
-use Rattle.node_table.proofs.Touches.{item_c, item_x, used_touched, relabels}
+use Rattle.node_chains.specs.Changes.{with_item}
+use Rattle.node_chains.proofs.Items.{item_c, item_x}
+use Rattle.node_table.proofs.Touches.{used_touched, relabels}
 
 -- two changes at one place are one
 pub change_twice : {X : Type 0} (f g h : X → X) → ((x : X) → f (g x) ≡ h x) → (xs : List X) (p : ℕ) → change (change xs p g) p f ≡ change xs p h
@@ -46,7 +48,7 @@ kept_path {f} {c} {nodes} {nodes1} {t} {s} {t1} {s1} M E (p ∷ ps) i l st r =
 
 module _ {U : Type 0} {f c bytes bytes2 : ℕ} {nodes nodes1 nodes2 : List Node} {t s t1 s1 ut ut2 ut3 : List ℕ} {us us2 us3 : List U} (Us : Used f nodes t s bytes) (uc : Under (row t s) 0 c) (lo : 0 < c)
     (M1 : Placing f nodes1 t1 s1) (E : Emptied f c 17 nodes nodes1 t s t1 s1) (W : Wiped f (length (row t s f)) (length (row t1 s1 f)) nodes1 nodes2 t1 s1 ut ut2 us us2 bytes2) (C : Cleared c ut2 us2 ut3 us3)
-    (content : Content) (conflict : Bool) (string : List ℕ) (sh : length string ≤ 256) where
+    (content : Content) (conflict : Bool) (n : ℕ) (sh : n ≤ 256) where
   pub bare : Used f nodes2 t1 s1 bytes2
   bare = used_bare Us uc M1 E W
 
@@ -56,16 +58,16 @@ module _ {U : Type 0} {f c bytes bytes2 : ℕ} {nodes nodes1 nodes2 : List Node}
   pub c_inside : c < length nodes2
   c_inside = omega (arith, c_high, bare.placing.count)
 
-  abbrev it : Item
-  it = record { content = content; conflict = conflict; key_len = (item_at nodes2 c).key_len; string_len = length string }
+  abbrev pub it : Item
+  it = record { content = content; conflict = conflict; key_len = (item_at nodes2 c).key_len; string_len = n }
 
   abbrev nodes3 : List Node
-  nodes3 = set nodes2 c (record { item = it; parent = (get_or nodes2 c blank).parent; depth = (get_or nodes2 c blank).depth })
+  nodes3 = with_item nodes2 c it
 
   way : (ps : List ℕ) → Steps (row t s) ps 0 → reach (row t s) ps 0 ≡ c → Steps (row t1 s1) ps 0 × (reach (row t1 s1) ps 0 ≡ c)
   way ps st r = kept_path Us.placing E ps 0 Us.some st r
 
-  pub used_refilled : Used f nodes3 t1 s1 (bytes2 - (item_at nodes2 c).string_len + length string)
+  pub used_refilled : Used f nodes3 t1 s1 (bytes2 - (item_at nodes2 c).string_len + n)
   used_refilled =
       let w = way uc.0 uc.1 uc.2 in
       used_touched c nodes2 it c_inside bare lo (uc.0, w.0, w.1) (λ z. E.empty) ((bare.short c).0, sh) (omega (arith, item_enough bare c c_high))
@@ -75,9 +77,9 @@ module _ {U : Type 0} {f c bytes bytes2 : ℕ} {nodes nodes1 nodes2 : List Node}
       (λ (e : i ≡ c). ap (row ut3 us3) e ∙ C.here)
       (λ ne. C.others i ne ∙ dry_bare Us uc M1 E W D i (ap (λ (y : Item). is_text y.content) (sym (item_x c nodes2 it c_inside i ne)) ∙ h)) (cases_eq i c)
 
-  pub changed_refilled : (keys strings strings2 : List ℕ) → length strings ≡ 256 * (f + 1) → length strings2 ≡ length strings → Replaced strings strings2 (length strings) (256 * c) (length string) string
+  pub changed_refilled : (keys strings strings2 string : List ℕ) → length string ≡ n → length strings ≡ 256 * (f + 1) → length strings2 ≡ length strings → Replaced strings strings2 (length strings) (256 * c) (length string) string
       → Changed (row t s) c (λ x. relabel (refilled content conflict string) (pruned x)) (held nodes t s keys strings (row ut us)) (held nodes3 t1 s1 keys strings2 (row ut3 us3))
-  changed_refilled keys strings strings2 ls ls2 rs ps st r =
+  changed_refilled keys strings strings2 string ln ls ls2 rs ps st r =
       let w = way ps st r in
       relabels bare c (refilled content conflict string) (datum nodes2 keys strings (row ut2 us2)) (datum nodes3 keys strings2 (row ut3 us3)) new old ps w.0 w.1
       ∙ ap (update ps (relabel (refilled content conflict string))) (changed_bare Us uc M1 E W keys strings ps st r)

@@ -1,18 +1,21 @@
 -- One entry changed where it lies.
-use Rattle.std.proofs.Common.{◌≡◌, ℕ, zero, suc, ◌+◌, ◌-◌, ◌<◌, ◌≤◌, true, false, ◌⊎◌, List, [], length, get_or, set, sym, refl, ap, ◌∙◌, inl, ⊎_elim, arith, length-set, get_or-set_other, get_or-set_same, rules}
+use Rattle.std.proofs.Common.{◌≡◌, ℕ, zero, suc, ◌+◌, ◌-◌, ◌<◌, ◌≤◌, true, false, ◌⊎◌, List, ℤ, ◌+ℤ◌, [], length, get_or, sym, refl, ap, ◌∙◌, inl, ⊎_elim, arith, rules}
 use Rattle.std.proofs.lemmas.List.{places}
 use Rattle.std.proofs.lemmas.Bool.{cases_eq}
 use Rattle.sequence_tree.specs.Lists.{spliced}
 use Rattle.packed_rows.specs.Rows.{row, RowSpliced}
 use Rattle.node_table.specs.Kinds.{branches, is_text}
 use Rattle.node_chains.specs.Tree.{node, none, tree, relabel, Under}
-use Rattle.node_chains.specs.Chains.{blank, item_at, up_at, lev_at}
-use Rattle.node_table.specs.Held.{Datum, datum, held, Changed, Touched, item_bytes, Used, Dry, respelled, Spelled}
+use Rattle.node_chains.specs.Chains.{item_at, up_at, lev_at}
+use Rattle.node_table.specs.Held.{Datum, datum, held, Changed, Touched, item_bytes, Used, Dry, respelled, Spelled, flagged, raised}
+use Rattle.node_chains.specs.declared.node.Content.TheVariants.{Counter}
 use Rattle.node_chains.specs.declared.node.Item.{Item}
 use Rattle.node_chains.specs.declared.node.Node.{Node}
 use Rattle.node_chains.proofs.Frames.{map_same, along, stays, Only}
 use Rattle.node_table.proofs.Sums.{below_change}
-use Rattle.node_table.proofs.Wipes.{placing_relinked}
+use Rattle.node_table.proofs.Counters.{raises}
+use Rattle.node_chains.specs.Changes.{with_item}
+use Rattle.node_chains.proofs.Items.{item_c, item_x, links, placing_item}
 use Rattle.node_table.proofs.Inserts.{other_test, used_high, used_up, used_lev}
 use Rattle.node_table.proofs.Removes.{used_deep}
 
@@ -37,44 +40,24 @@ module _ {D : Type 0} {f bytes : ℕ} {nodes : List Node} {t s : List ℕ} (Us :
 
 -- the node at c rewritten with another item
 module _ (c : ℕ) (nodes : List Node) (it : Item) (l : c < length nodes) where
-  abbrev nodes2 : List Node
-  nodes2 = set nodes c (record { item = it; parent = (get_or nodes c blank).parent; depth = (get_or nodes c blank).depth })
-
-  at_c : get_or nodes2 c blank ≡ record { item = it; parent = (get_or nodes c blank).parent; depth = (get_or nodes c blank).depth }
-  at_c = get_or-set_same nodes c _ blank l
-
-  at_x : (x : ℕ) → (x ≡ c → ⊥) → get_or nodes2 x blank ≡ get_or nodes x blank
-  at_x x ne = get_or-set_other nodes c x _ blank ne
-
-  pub item_c : item_at nodes2 c ≡ it
-  item_c = ap (λ (y : Node). y.item) at_c
-
-  pub item_x : (x : ℕ) → (x ≡ c → ⊥) → item_at nodes2 x ≡ item_at nodes x
-  item_x x ne = ap (λ (y : Node). y.item) (at_x x ne)
-
-  relinked : (x : ℕ) → (up_at nodes2 x ≡ up_at nodes x) × (lev_at nodes2 x ≡ lev_at nodes x)
-  relinked x = ⊎_elim
-      (λ (e : x ≡ c). (ap (up_at nodes2) e ∙ ap (λ (y : Node). y.parent) at_c ∙ ap (up_at nodes) (sym e), ap (lev_at nodes2) e ∙ ap (λ (y : Node). y.depth) at_c ∙ ap (lev_at nodes) (sym e)))
-      (λ ne. (ap (λ (y : Node). y.parent) (at_x x ne), ap (λ (y : Node). y.depth) (at_x x ne))) (cases_eq x c)
-
   pub used_touched : {f bytes bytes2 : ℕ} {t s : List ℕ} → Used f nodes t s bytes → 0 < c → Under (row t s) 0 c → (branches it.content ≡ false → row t s c ≡ []) → (it.key_len ≤ 64) × (it.string_len ≤ 256)
-      → bytes2 + item_bytes (item_at nodes c) ≡ bytes + item_bytes it → Used f nodes2 t s bytes2
+      → bytes2 + item_bytes (item_at nodes c) ≡ bytes + item_bytes it → Used f (with_item nodes c it) t s bytes2
   used_touched {f} {bytes} {bytes2} {t} {s} Us lo uc br sh e = record {
-    placing = placing_relinked f nodes nodes2 t s Us.placing (length-set nodes c _) relinked;
+    placing = placing_item c nodes it l Us.placing;
     some = Us.some;
-    root = item_x 0 (λ z. omega arith) ∙ Us.root;
-    base = ((relinked 0).0 ∙ Us.base.0, (relinked 0).1 ∙ Us.base.1);
-    last = item_x f (λ z. omega (arith, hi)) ∙ Us.last;
-    leaf = λ i h. ⊎_elim (λ (z : i ≡ c). ap (row t s) z ∙ br (ap (λ (y : Item). branches y.content) (sym (ap (item_at nodes2) z ∙ item_c)) ∙ h))
-        (λ ne. Us.leaf i (ap (λ (y : Item). branches y.content) (sym (item_x i ne)) ∙ h)) (cases_eq i c);
-    free = λ p h. item_x (get_or (row t s f) p 0) (λ z. used_up Us uc (ap (up_at nodes) (sym z) ∙ Us.placing.shape.ups f p h)) ∙ Us.free p h;
+    root = item_x c nodes it l 0 (λ z. omega arith) ∙ Us.root;
+    base = ((links c nodes it l 0).0 ∙ Us.base.0, (links c nodes it l 0).1 ∙ Us.base.1);
+    last = item_x c nodes it l f (λ z. omega (arith, hi)) ∙ Us.last;
+    leaf = λ i h. ⊎_elim (λ (z : i ≡ c). ap (row t s) z ∙ br (ap (λ (y : Item). branches y.content) (sym (ap (item_at (with_item nodes c it)) z ∙ item_c c nodes it l)) ∙ h))
+        (λ ne. Us.leaf i (ap (λ (y : Item). branches y.content) (sym (item_x c nodes it l i ne)) ∙ h)) (cases_eq i c);
+    free = λ p h. item_x c nodes it l (get_or (row t s f) p 0) (λ z. used_up Us uc (ap (up_at nodes) (sym z) ∙ Us.placing.shape.ups f p h)) ∙ Us.free p h;
     short = λ i. ⊎_elim
-        (λ (z : i ≡ c). let y = ap (item_at nodes2) z ∙ item_c in (omega (arith, ap (λ (y : Item). y.key_len) y, sh.0), omega (arith, ap (λ (y : Item). y.string_len) y, sh.1)))
-        (λ ne. let y = item_x i ne in (omega (arith, ap (λ (y : Item). y.key_len) y, (Us.short i).0), omega (arith, ap (λ (y : Item). y.string_len) y, (Us.short i).1))) (cases_eq i c);
+        (λ (z : i ≡ c). let y = ap (item_at (with_item nodes c it)) z ∙ item_c c nodes it l in (omega (arith, ap (λ (y : Item). y.key_len) y, sh.0), omega (arith, ap (λ (y : Item). y.string_len) y, sh.1)))
+        (λ ne. let y = item_x c nodes it l i ne in (omega (arith, ap (λ (y : Item). y.key_len) y, (Us.short i).0), omega (arith, ap (λ (y : Item). y.string_len) y, (Us.short i).1))) (cases_eq i c);
     parted = Us.parted;
     counted =
-        let a = below_change f c (λ i. item_bytes (item_at nodes i)) (λ i. item_bytes (item_at nodes2 i)) hi (λ x ne. ap item_bytes (item_x x ne)) in
-        let b = ap item_bytes item_c in
+        let a = below_change f c (λ i. item_bytes (item_at nodes i)) (λ i. item_bytes (item_at (with_item nodes c it) i)) hi (λ x ne. ap item_bytes (item_x c nodes it l x ne)) in
+        let b = ap item_bytes (item_c c nodes it l) in
         omega (arith, Us.counted);
   }
     where
@@ -85,14 +68,28 @@ module _ (c : ℕ) (nodes : List Node) (it : Item) (l : c < length nodes) where
   pub touches : {U : Type 0} (h : Datum U → Datum U) → it.key_len ≡ (item_at nodes c).key_len → it.string_len ≡ (item_at nodes c).string_len
       → branches it.content ≡ branches (item_at nodes c).content → is_text it.content ≡ is_text (item_at nodes c).content
       → ((keys strings : List ℕ) (u : ℕ → List U) → record { key = (datum nodes keys strings u c).key; content = it.content; conflict = it.conflict; string = (datum nodes keys strings u c).string; units = u c } ≡ h (datum nodes keys strings u c))
-      → Touched h c nodes nodes2
+      → Touched h c nodes (with_item nodes c it)
   touches {U} h ek es eb et eh = record {
     lawful = λ f bytes t s lo uc Us. used_touched Us lo uc (λ z. Us.leaf c (sym eb ∙ z)) (omega (arith, ek, (Us.short c).0), omega (arith, es, (Us.short c).1)) (omega (arith, ek, es));
-    dry = λ u D i z. ⊎_elim (λ (e : i ≡ c). ap u e ∙ D c (sym et ∙ ap (λ (y : Item). is_text y.content) (sym (ap (item_at nodes2) e ∙ item_c)) ∙ z)) (λ ne. D i (ap (λ (y : Item). is_text y.content) (sym (item_x i ne)) ∙ z)) (cases_eq i c);
-    changed = λ f bytes t s keys strings u Us. relabels Us c h (datum nodes keys strings u) (datum nodes2 keys strings u)
-        (let i = item_c in let e = eh keys strings u in cc)
-        (λ x ne. let i = item_x x ne in cc);
+    dry = λ u D i z. ⊎_elim (λ (e : i ≡ c). ap u e ∙ D c (sym et ∙ ap (λ (y : Item). is_text y.content) (sym (ap (item_at (with_item nodes c it)) e ∙ item_c c nodes it l)) ∙ z)) (λ ne. D i (ap (λ (y : Item). is_text y.content) (sym (item_x c nodes it l i ne)) ∙ z)) (cases_eq i c);
+    changed = λ f bytes t s keys strings u Us. relabels Us c h (datum nodes keys strings u) (datum (with_item nodes c it) keys strings u)
+        (let i = item_c c nodes it l in let e = eh keys strings u in cc)
+        (λ x ne. let i = item_x c nodes it l x ne in cc);
   }
+
+-- an entry with its flag set
+module _ {U : Type 0} (c : ℕ) (nodes : List Node) (it : Item) (l : c < length nodes) (e : it ≡ item_at nodes c) where
+  pub flags : Touched {U = U} flagged c nodes (with_item nodes c (record { content = it.content; conflict = true; key_len = it.key_len; string_len = it.string_len }))
+  flags = rw e (touches c nodes (record { content = (item_at nodes c).content; conflict = true; key_len = (item_at nodes c).key_len; string_len = (item_at nodes c).string_len }) l flagged refl refl refl refl (λ keys strings u. refl))
+
+-- a counter with a number added
+module _ {U : Type 0} (c : ℕ) (nodes : List Node) (it : Item) (l : c < length nodes) (e : it ≡ item_at nodes c) (x n z : ℤ) (is : it.content ≡ Counter x) (h : z ≡ x +ℤ n) where
+  pub raised_here : Touched {U = U} (raised n) c nodes (with_item nodes c (record { content = Counter z; conflict = it.conflict; key_len = it.key_len; string_len = it.string_len }))
+  raised_here =
+      let i : (item_at nodes c).content ≡ Counter x = ap (λ (y : Item). y.content) (sym e) ∙ is in
+      let r = raises (item_at nodes c).content x n z i h in
+      touches c nodes (record { content = Counter z; conflict = it.conflict; key_len = it.key_len; string_len = it.string_len }) l (raised n)
+      (ap (λ (y : Item). y.key_len) e) (ap (λ (y : Item). y.string_len) e) (sym (ap branches i)) (sym (ap is_text i)) (λ keys strings u. let f = ap (λ (y : Item). y.conflict) e in cc)
 
 -- the length of a list with a part replaced
 spliced_length : {X : Type 0} (xs ys : List X) (at k : ℕ) → at + k ≤ length xs → length (spliced xs at k ys) + k ≡ length xs + length ys

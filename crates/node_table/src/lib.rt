@@ -1,9 +1,11 @@
 // The memory of a screen's value: nodes in tables, with packed rows of their children and units.
 #![tactic(auto)]
 
-pub mod edits;
+mod edits;
 pub mod find;
-pub mod in_place;
+mod in_place;
+mod reads;
 pub mod reset;
+pub mod tables;
 pub mod values;
-pub mod weigh;
+mod weigh;

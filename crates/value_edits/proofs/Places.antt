@@ -5,8 +5,9 @@ use Rattle.node_chains.proofs.Weights.{part, Leads}
 use Rattle.node_table.specs.Held.{Datum, datum}
 use Rattle.node_table.proofs.Inserts.{used_high, used_lev}
 use Rattle.node_table.proofs.Sums.{parts, Parts}
-use Rattle.value_memory.specs.declared.tables.Tables.{Tables}
-use Rattle.value_memory.specs.Memory.{nodes_in, kids, units_at, tree_of}
+use Rattle.node_chains.specs.Changes.{free_row}
+use Rattle.node_table.specs.Edits.{nodes_in, kids, units_at, tree_of}
+use Rattle.node_table.specs.declared.tables.Tables.{Tables}
 use Rattle.value_edits.specs.Acted.{At, Way}
 
 module _ {U : Type 0} (m : Tables U) where
@@ -35,7 +36,7 @@ module _ {U : Type 0} (m : Tables U) where
     at_place = led.is ∙ ap (tree_at (suc rest)) W.reaches
 
   -- a place in use is below the places' end, and some way leads there
-  pub place_low : {o : ℕ} → Under (kids m) 0 o → o < 4097
+  pub place_low : {o : ℕ} → Under (kids m) 0 o → o < free_row m.chains
   place_low u = used_high m.sound.used u
 
   pub way_of : {o : ℕ} → Under (kids m) 0 o → (ps : List ℕ) × Way m o ps

@@ -13,8 +13,9 @@ use Rattle.node_table.specs.Held.{Datum}
 use Rattle.node_table.specs.Values.{Follows, Keeps}
 use Rattle.value_tree.specs.Acts.{Edits}
 use Rattle.value_tree.specs.Proper.{Proper}
-use Rattle.value_memory.specs.declared.tables.Tables.{Tables}
-use Rattle.value_memory.specs.Memory.{nodes_in, kids, tree_of, shown, Good}
+use Rattle.node_table.specs.Edits.{nodes_in, kids, tree_of}
+use Rattle.node_table.specs.declared.tables.Tables.{Tables}
+use Rattle.value_memory.specs.Memory.{shown, Good}
 
 module _ {U : Type 0} where
   -- A call's answer, with the value that it leaves.

@@ -1,6 +1,2 @@
-// The lent memory of a screen's value: the tables of its nodes as one struct, and the changes of the tree in it.
+// The value that a screen's tables hold, and its bounds.
 #![tactic(auto)]
-
-mod edits;
-mod reads;
-pub mod tables;

@@ -1,4 +1,4 @@
-use Rattle.std.proofs.Common.{◌≡◌, ◌-◌, ◌<◌, ◌∙◌, sym, ap, arith}
+use Rattle.std.proofs.Common.{◌-◌, ◌<◌, ◌∙◌, sym, ap, arith}
 use Rattle.node_chains.specs.Chains.{up_at, lev_at}
 use Rattle.node_chains.proofs.Frees.{ends_going, some, child_up, child_lev, lev_i, some1, bare1, up1, goes_on}
 use Rattle.node_chains.proofs.Sizes.{free_same, same_then, placing_same, emptied_same, freed_same}
