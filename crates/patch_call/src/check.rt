@@ -14,19 +14,13 @@ use types::value::{Prop, ScalarValue, Value};
 fn is_high(p: Prop) -> bool
     ensures { result ≡ high_prop (prop_seen p.entry) }
 {
-    match p {
-        Prop::Map(_) => false,
-        Prop::Seq(i) => i > LAST_POSITION,
-    }
+    matches!(p, Prop::Seq(i) if i > LAST_POSITION)
 }
 
 fn is_long(p: Prop) -> bool
     ensures { result ≡ long_prop (prop_seen p.entry) }
 {
-    match p {
-        Prop::Map(key) => key.len() > KEY_BYTES,
-        Prop::Seq(_) => false,
-    }
+    matches!(p, Prop::Map(key) if key.len() > KEY_BYTES)
 }
 
 fn is_long_entry(e: Entry) -> bool
@@ -38,13 +32,11 @@ fn is_long_entry(e: Entry) -> bool
 fn is_bad(p: Prop) -> bool
     ensures { result ≡ bad_prop (prop_seen p.entry) }
 {
-    match p {
-        Prop::Map(key) => !is_utf8(key),
-        Prop::Seq(_) => false,
-    }
+    matches!(p, Prop::Map(key) if !is_utf8(key))
 }
 
-// Whether a string is UTF-8; bytes may be anything.
+// Whether a string is UTF-8; bytes may be anything. The crate document tests its values so too: below both, the test
+// would need a definition of its own, which each would have to prove equal to its own view of a value.
 fn is_text(value: Value) -> bool
     ensures { result ≡ well_spelt (content_seen value.entry) }
 {
@@ -60,13 +52,9 @@ impl<'a> Call<'a> {
         ensures { result ≡ zero_call (call_seen self.entry) }
     {
         match self {
-            Call::Put(_, e) => e.id.counter == 0,
-            Call::Insert(_, e) => e.id.counter == 0,
-            Call::DeleteSeq(_, _) => false,
-            Call::DeleteMap(_) => false,
+            Call::Put(_, e) | Call::Insert(_, e) => e.id.counter == 0,
             Call::Increment(_, _, id) => id.counter == 0,
-            Call::FlagConflict(_) => false,
-            Call::SpliceText(_, _) => false,
+            _ => false,
         }
     }
 
@@ -74,13 +62,11 @@ impl<'a> Call<'a> {
         ensures { result ≡ position_too_high (call_seen self.entry) }
     {
         match self {
-            Call::Put(p, _) => is_high(p),
-            Call::Insert(i, _) => i > LAST_POSITION,
-            Call::DeleteSeq(i, _) => i > LAST_POSITION,
+            Call::Put(p, _) | Call::Increment(p, _, _) | Call::FlagConflict(p) => is_high(p),
+            Call::Insert(i, _) | Call::DeleteSeq(i, _) | Call::SpliceText(i, _) => {
+                i > LAST_POSITION
+            }
             Call::DeleteMap(_) => false,
-            Call::Increment(p, _, _) => is_high(p),
-            Call::FlagConflict(p) => is_high(p),
-            Call::SpliceText(i, _) => i > LAST_POSITION,
         }
     }
 
@@ -88,15 +74,7 @@ impl<'a> Call<'a> {
     fn has_bad_length(self) -> bool
         ensures { result ≡ deletion_alone (call_seen self.entry) }
     {
-        match self {
-            Call::Put(_, _) => false,
-            Call::Insert(_, _) => false,
-            Call::DeleteSeq(_, n) => n == 0 || n > DELETION_LENGTH,
-            Call::DeleteMap(_) => false,
-            Call::Increment(_, _, _) => false,
-            Call::FlagConflict(_) => false,
-            Call::SpliceText(_, _) => false,
-        }
+        matches!(self, Call::DeleteSeq(_, n) if n == 0 || n > DELETION_LENGTH)
     }
 
     fn is_too_long(self) -> bool
@@ -105,11 +83,10 @@ impl<'a> Call<'a> {
         match self {
             Call::Put(p, e) => is_long(p) || is_long_entry(e),
             Call::Insert(_, e) => is_long_entry(e),
-            Call::DeleteSeq(_, _) => false,
             Call::DeleteMap(key) => key.len() > KEY_BYTES,
-            Call::Increment(p, _, _) => is_long(p),
-            Call::FlagConflict(p) => is_long(p),
+            Call::Increment(p, _, _) | Call::FlagConflict(p) => is_long(p),
             Call::SpliceText(_, text) => text.len() > SPLICE_BYTES,
+            Call::DeleteSeq(_, _) => false,
         }
     }
 
@@ -119,11 +96,9 @@ impl<'a> Call<'a> {
         match self {
             Call::Put(p, e) => is_bad(p) || !is_text(e.value),
             Call::Insert(_, e) => !is_text(e.value),
+            Call::DeleteMap(bytes) | Call::SpliceText(_, bytes) => !is_utf8(bytes),
+            Call::Increment(p, _, _) | Call::FlagConflict(p) => is_bad(p),
             Call::DeleteSeq(_, _) => false,
-            Call::DeleteMap(key) => !is_utf8(key),
-            Call::Increment(p, _, _) => is_bad(p),
-            Call::FlagConflict(p) => is_bad(p),
-            Call::SpliceText(_, text) => !is_utf8(text),
         }
     }
 }

@@ -18,8 +18,7 @@ fn data_of<'a>(value: Value<'a>) -> &'a [u8]
     ensures { result.now ≡ content_data (content_seen value.entry) }
 {
     match value {
-        Value::Scalar(ScalarValue::Str(s)) => s,
-        Value::Scalar(ScalarValue::Bytes(s)) => s,
+        Value::Scalar(ScalarValue::Str(s) | ScalarValue::Bytes(s)) => s,
         _ => &[],
     }
 }
@@ -30,13 +29,9 @@ impl<'a> Call<'a> {
         ensures { result.now ≡ call_key (call_seen self.entry) }
     {
         match self {
-            Call::Put(p, _) => key_of(p),
-            Call::Insert(_, _) => &[],
-            Call::DeleteSeq(_, _) => &[],
+            Call::Put(p, _) | Call::Increment(p, _, _) | Call::FlagConflict(p) => key_of(p),
             Call::DeleteMap(key) => key,
-            Call::Increment(p, _, _) => key_of(p),
-            Call::FlagConflict(p) => key_of(p),
-            Call::SpliceText(_, _) => &[],
+            _ => &[],
         }
     }
 
@@ -45,13 +40,8 @@ impl<'a> Call<'a> {
         ensures { result.now ≡ call_data (call_seen self.entry) }
     {
         match self {
-            Call::Put(_, e) => data_of(e.value),
-            Call::Insert(_, e) => data_of(e.value),
-            Call::DeleteSeq(_, _) => &[],
-            Call::DeleteMap(_) => &[],
-            Call::Increment(_, _, _) => &[],
-            Call::FlagConflict(_) => &[],
-            Call::SpliceText(_, _) => &[],
+            Call::Put(_, e) | Call::Insert(_, e) => data_of(e.value),
+            _ => &[],
         }
     }
 }
