@@ -5,5 +5,7 @@
 pub mod call;
 mod check;
 mod content;
+#[cfg(test)]
+mod tests;
 
 pub use check::check_call;
