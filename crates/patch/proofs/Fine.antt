@@ -55,33 +55,15 @@ module _ {U : Type 0} where
 
   pub flag_fine : (a : Action U) → fine_action (flag_put a) ≡ fine_action a
   flag_fine (put_map k e) = refl
-  flag_fine (put_seq i e) = refl
-  flag_fine (insert i es) = refl
-  flag_fine (splice_text i us) = refl
-  flag_fine (increment p n) = refl
-  flag_fine (conflict p) = refl
-  flag_fine (delete_map k) = refl
-  flag_fine (delete_seq i n) = refl
+  flag_fine a = refl
 
   pub length_fine : (m : ℕ) (a : Action U) → fine_action (lengthen m a) ≡ fine_action a
   length_fine m (put_map k e) = refl
-  length_fine m (put_seq i e) = refl
-  length_fine m (insert i es) = refl
-  length_fine m (splice_text i us) = refl
-  length_fine m (increment p n) = refl
-  length_fine m (conflict p) = refl
-  length_fine m (delete_map k) = refl
-  length_fine m (delete_seq i n) = refl
+  length_fine m a = refl
 
   pub units_fine : (j : ℕ) (us : List U) (a : Action U) → fine_action (add_units j us a) ≡ fine_action a
   units_fine j us (put_map k e) = refl
-  units_fine j us (put_seq i e) = refl
-  units_fine j us (insert i es) = refl
-  units_fine j us (splice_text i xs) = refl
-  units_fine j us (increment p n) = refl
-  units_fine j us (conflict p) = refl
-  units_fine j us (delete_map k) = refl
-  units_fine j us (delete_seq i n) = refl
+  units_fine j us a = refl
 
 -- a path's keys
 pub whole_parts : (ss : List StepRow) (ks : List ℕ) → whole_path ss ks ≡ true → (short_rows ss ≡ true) × (steps_len ss ≡ length ks)

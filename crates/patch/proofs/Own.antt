@@ -38,24 +38,13 @@ prop_len_lem (key k) = omega arith
 prop_len_lem (pos i) = refl
 
 scalar_own : (s : Scalar) → scalar_told (scalar_row s) (scalar_data s) ≡ s
-scalar_own null = refl
-scalar_own (boolean b) = refl
-scalar_own (int n) = refl
-scalar_own (uint n) = refl
-scalar_own (timestamp n) = refl
-scalar_own (counter n) = refl
 scalar_own (str s) = ap str (take_all (length s) s (omega arith))
 scalar_own (bytes s) = ap bytes (take_all (length s) s (omega arith))
+scalar_own s = refl
 
 scalar_len_lem : (s : Scalar) → scalar_len (scalar_row s) ≡ length (scalar_data s)
 scalar_len_lem null = refl
-scalar_len_lem (boolean b) = refl
-scalar_len_lem (int n) = refl
-scalar_len_lem (uint n) = refl
-scalar_len_lem (timestamp n) = refl
-scalar_len_lem (counter n) = refl
-scalar_len_lem (str s) = refl
-scalar_len_lem (bytes s) = refl
+scalar_len_lem s = refl
 
 content_own : (k : Content) → content_told (content_row k) (content_data k) ≡ k
 content_own (scalar_of s) = ap scalar_of (scalar_own s)
@@ -84,23 +73,12 @@ action_len_lem (splice_call j t) n w = refl
 
 values_own : (c : Call) (n : ℕ) (w : Bool) → length (call_values c w) ≡ values_in (action_row c n w)
 values_own (put_call (key k) e) n w = refl
-values_own (put_call (pos j) e) n w = refl
-values_own (insert_call j e) n w = refl
-values_own (delete_seq_call j m) n w = refl
-values_own (delete_map_call k) n w = refl
-values_own (increment_call p m d) n w = refl
-values_own (flag_call p) n w = refl
-values_own (splice_call j t) n w = refl
+values_own c n w = refl
 
 wides_own : (c : Call) (n : ℕ) (w : Bool) → wides (call_values c w) ≡ wides_in (action_row c n w)
 wides_own (put_call (key k) e) n w = refl
-wides_own (put_call (pos j) e) n w = refl
 wides_own (insert_call j e) n w = omega arith
-wides_own (delete_seq_call j m) n w = refl
-wides_own (delete_map_call k) n w = refl
-wides_own (increment_call p m d) n w = refl
-wides_own (flag_call p) n w = refl
-wides_own (splice_call j t) n w = refl
+wides_own c n w = refl
 
 module _ {U : Type 0} where
   action_own : (c : Call) (us : List U) (w : Bool)
@@ -117,13 +95,7 @@ module _ {U : Type 0} where
 
   units_own : (c : Call) (us : List U) (w : Bool) → length (call_units c us) ≡ units_in (action_row c (length us) w)
   units_own (put_call (key k) e) us w = refl
-  units_own (put_call (pos j) e) us w = refl
-  units_own (insert_call j e) us w = refl
-  units_own (delete_seq_call j m) us w = refl
-  units_own (delete_map_call k) us w = refl
-  units_own (increment_call p m d) us w = refl
-  units_own (flag_call p) us w = refl
-  units_own (splice_call j t) us w = refl
+  units_own c us w = refl
 
   module _ (o : ObjId) (ss : List StepRow) (ks : List ℕ) (c : Call) (us : List U) (w : Bool) (whole : steps_len ss ≡ length ks) where
     pub fits_own : length ss ≤ 16 → Fits (row_made o ss ks c (length us) w) (parts_made ss ks c us w)

@@ -37,14 +37,9 @@ path_bytes (s ∷ ss) bs h =
     (λ i. a i + b i)
 
 scalar_bytes_lem : (s : ScalarOf ℕ) (bs : List ℕ) → scalar_len s ≤ length bs → bytes_of_scalar (scalar_told s bs) ≡ scalar_len s
-scalar_bytes_lem Null bs h = refl
-scalar_bytes_lem (Boolean b) bs h = refl
-scalar_bytes_lem (Int n) bs h = refl
-scalar_bytes_lem (Uint n) bs h = refl
-scalar_bytes_lem (Timestamp n) bs h = refl
-scalar_bytes_lem (Counter n) bs h = refl
 scalar_bytes_lem (Str n) bs h = length-take-le n bs h
 scalar_bytes_lem (Bytes n) bs h = length-take-le n bs h
+scalar_bytes_lem s bs h = refl
 
 content_bytes_lem : (k : ValueOf ℕ) (bs : List ℕ) → content_len k ≤ length bs → content_bytes (content_told k bs) ≡ content_len k
 content_bytes_lem (Object k) bs h = refl
@@ -121,24 +116,12 @@ module _ {U : Type 0} where
       and_from _ _ (ap (fits_row r) (block_plus r f b h) ∙ fits_from r b h) (ap (laid rs) (rest_plus r f b h) ∙ l)
 
   action_values_lem : (a : ActionRow) (vs : List ValueRow) (us : List U) (bs : List ℕ) → length vs ≡ values_in a → action_values (action_told a vs us bs) ≡ length vs
-  action_values_lem (PutMap n v) vs us bs h = sym h
-  action_values_lem (PutSeq i v) vs us bs h = sym h
   action_values_lem (Insert i n w) vs us bs h = entries_count vs bs
-  action_values_lem (SpliceText i n) vs us bs h = sym h
-  action_values_lem (Increment p n) vs us bs h = sym h
-  action_values_lem (Conflict p) vs us bs h = sym h
-  action_values_lem (DeleteMap n) vs us bs h = sym h
-  action_values_lem (DeleteSeq i n) vs us bs h = sym h
+  action_values_lem a vs us bs h = sym h
 
   action_units_lem : (a : ActionRow) (vs : List ValueRow) (us : List U) (bs : List ℕ) → length us ≡ units_in a → action_units (action_told a vs us bs) ≡ length us
-  action_units_lem (PutMap n v) vs us bs h = sym h
-  action_units_lem (PutSeq i v) vs us bs h = sym h
-  action_units_lem (Insert i n w) vs us bs h = sym h
   action_units_lem (SpliceText i n) vs us bs h = refl
-  action_units_lem (Increment p n) vs us bs h = sym h
-  action_units_lem (Conflict p) vs us bs h = sym h
-  action_units_lem (DeleteMap n) vs us bs h = sym h
-  action_units_lem (DeleteSeq i n) vs us bs h = sym h
+  action_units_lem a vs us bs h = sym h
 
   action_bytes_lem : (a : ActionRow) (vs : List ValueRow) (us : List U) (bs : List ℕ) → action_len a vs ≤ length bs → action_bytes (action_told a vs us bs) ≡ action_len a vs
   action_bytes_lem (PutMap n v) vs us bs h =
