@@ -91,7 +91,7 @@ module _ {U : Type 0} (o : ObjId) (s : List Step) (c : Call) (us : List U) (held
   refused_early e h = go (early o c) h ∙ ap answer (sym both)
     where
       go : (x : Option Refusal) → Err e ≡ answer x → Err e ≡ answer (or_else x (late o s c us held))
-      go none q = let z : ◌≡◌ {A = ℕ} 0 1 = cc in absurd (omega arith)
+      go none q = cc
       go (some f) q = q
 
   pub passed_early : (x : Unit {0}) → Ok x ≡ answer (early o c) → answer (late o s c us held) ≡ answer (appending o s c us held)
@@ -99,4 +99,4 @@ module _ {U : Type 0} (o : ObjId) (s : List Step) (c : Call) (us : List U) (held
     where
       go : (y : Option Refusal) → Ok x ≡ answer y → answer (late o s c us held) ≡ answer (or_else y (late o s c us held))
       go none q = refl
-      go (some f) q = let z : ◌≡◌ {A = ℕ} 0 1 = cc in absurd (omega arith)
+      go (some f) q = cc

@@ -11,7 +11,7 @@ use Rattle.patch.specs.declared.rows.StepRow.{StepRow}
 use Rattle.meaning.specs.Results.{first_of}
 use Rattle.meaning.specs.Lists.{Every}
 use Rattle.meaning.specs.Entries.{Entry}
-use Rattle.meaning.specs.Patches.{key, pos, Action, put_map, put_seq, insert, splice_text, increment, conflict, delete_map, delete_seq, Patch}
+use Rattle.meaning.specs.Patches.{key, pos, Action, put_map, Patch}
 use Rattle.meaning.specs.Documents.{well_spelt}
 use Rattle.meaning.specs.Calls.{Call, put_call, insert_call, delete_seq_call, delete_map_call, increment_call, flag_call, splice_call, own_action, long_prop, long_entry, too_long, bad_encoding}
 use Rattle.patch_call.specs.Refused.{answer, early_tests, early}
@@ -85,7 +85,7 @@ none_fits [] h = tt
 none_fits (x ∷ xs) h = go x.0 refl h (none_fits xs)
   where
     go : (t : Bool) → x.0 ≡ t → cond t (some x.1) (first_of xs) ≡ none → (first_of xs ≡ none → Every (λ (y : Bool × Refusal). y.0 ≡ false) xs) → (x.0 ≡ false) × Every (λ (y : Bool × Refusal). y.0 ≡ false) xs
-    go true e q f = let z : ◌≡◌ {A = ℕ} 0 1 = cc in absurd (omega arith)
+    go true e q f = cc
     go false e q f = (e, f q)
 
 early_parts : (o : ObjId) (c : Call) → early o c ≡ none → (too_long c ≡ false) × (bad_encoding c ≡ false)
@@ -115,4 +115,4 @@ fine_own o ss ks c us held w n h f =
 -- an answer that is no refusal
 pub no_refusal : (x : Unit {0}) (r : Option Refusal) → Ok x ≡ answer r → r ≡ none
 no_refusal x none h = refl
-no_refusal x (some e) h = let z : ◌≡◌ {A = ℕ} 0 1 = cc in absurd (omega arith)
+no_refusal x (some e) h = cc

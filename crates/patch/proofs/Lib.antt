@@ -8,4 +8,3 @@ pub mod Walks
 pub mod Changes
 pub mod Joins
 pub mod Fine
-pub mod Paths

@@ -5,7 +5,7 @@ use Rattle.types.specs.declared.types.ObjId.{ObjId}
 use Rattle.types.specs.declared.value.PropOf.{PropOf}
 use Rattle.types.specs.declared.value.PropOf.TheVariants.{Map, Seq}
 use Rattle.patch.specs.declared.rows.StepRow.{StepRow}
-use Rattle.meaning.specs.Entries.{Scalar, null, boolean, int, uint, timestamp, counter, str, bytes, Content, scalar_of, object_of, Entry}
+use Rattle.meaning.specs.Entries.{Scalar, null, str, bytes, Content, scalar_of, object_of, Entry}
 use Rattle.meaning.specs.Patches.{Prop, key, pos, put_map, put_seq, insert, increment, conflict, delete_map}
 use Rattle.meaning.specs.Calls.{Call, put_call, insert_call, delete_seq_call, delete_map_call, increment_call, flag_call, splice_call, own_action}
 use Rattle.patch_call.specs.Contents.{prop_key, scalar_data, content_data, call_key, call_data}

@@ -6,7 +6,7 @@ use Rattle.types.specs.declared.value.PropOf.{PropOf}
 use Rattle.types.specs.declared.value.PropOf.TheVariants.{Map, Seq}
 use Rattle.patch.specs.declared.rows.StepRow.{StepRow}
 use Rattle.types.specs.declared.value.ScalarOf.{ScalarOf}
-use Rattle.types.specs.declared.value.ScalarOf.TheVariants.{Null, Boolean, Int, Uint, Timestamp, Counter, Str, Bytes}
+use Rattle.types.specs.declared.value.ScalarOf.TheVariants.{Str, Bytes}
 use Rattle.types.specs.declared.value.ValueOf.{ValueOf}
 use Rattle.types.specs.declared.value.ValueOf.TheVariants.{Object, Scalar as Plain}
 use Rattle.patch.specs.declared.rows.ValueRow.{ValueRow}

@@ -10,39 +10,44 @@ use patch_call::call::{Call, Entry};
 use sequence_tree::sequence::Sequence;
 use types::value::Prop;
 
-pub fn value_row(e: Entry, wide: bool) -> ValueRow
-    ensures { result ≡ value_row (entry_seen e.entry) wide }
-{
-    ValueRow {
-        content: e.value.map(|bytes| bytes.len()),
-        id: e.id,
-        conflict: e.conflict,
-        wide,
+impl ValueRow {
+    fn new(e: Entry, wide: bool) -> ValueRow
+        ensures { result ≡ value_row (entry_seen e.entry) wide }
+    {
+        ValueRow {
+            content: e.value.map(|bytes| bytes.len()),
+            id: e.id,
+            conflict: e.conflict,
+            wide,
+        }
     }
 }
 
-fn put_row(p: Prop, e: Entry) -> ActionRow
-    ensures { (n : ℕ) (w : Bool) → result ≡ action_row (put_call (prop_seen p.entry) (entry_seen e.entry)) n w }
-{
-    match p {
-        Prop::Map(key) => ActionRow::PutMap(key.len(), value_row(e, false)),
-        Prop::Seq(i) => ActionRow::PutSeq(i, value_row(e, false)),
+impl ActionRow {
+    fn put(p: Prop, e: Entry) -> ActionRow
+        ensures { (n : ℕ) (w : Bool) → result ≡ action_row (put_call (prop_seen p.entry) (entry_seen e.entry)) n w }
+    {
+        let value = ValueRow::new(e, false);
+        match p {
+            Prop::Map(key) => ActionRow::PutMap(key.len(), value),
+            Prop::Seq(i) => ActionRow::PutSeq(i, value),
+        }
     }
-}
 
-// What the call does; `units` is the number of a splice's units, and `wide`
-// says if an inserted value is not one unit wide.
-pub fn action_row(call: Call, units: usize, wide: bool) -> ActionRow
-    ensures { result ≡ action_row (call_seen call.entry) units wide }
-{
-    match call {
-        Call::Put(p, e) => put_row(p, e),
-        Call::Insert(i, _) => ActionRow::Insert(i, 1, usize::from(wide)),
-        Call::DeleteSeq(i, n) => ActionRow::DeleteSeq(i, n),
-        Call::DeleteMap(key) => ActionRow::DeleteMap(key.len()),
-        Call::Increment(p, by, _) => ActionRow::Increment(p.map(|key| key.len()), by),
-        Call::FlagConflict(p) => ActionRow::Conflict(p.map(|key| key.len())),
-        Call::SpliceText(i, _) => ActionRow::SpliceText(i, units),
+    // What the call does; `units` is the number of a splice's units, and `wide`
+    // says if an inserted value is not one unit wide.
+    pub(crate) fn new(call: Call, units: usize, wide: bool) -> ActionRow
+        ensures { result ≡ action_row (call_seen call.entry) units wide }
+    {
+        match call {
+            Call::Put(p, e) => ActionRow::put(p, e),
+            Call::Insert(i, _) => ActionRow::Insert(i, 1, usize::from(wide)),
+            Call::DeleteSeq(i, n) => ActionRow::DeleteSeq(i, n),
+            Call::DeleteMap(key) => ActionRow::DeleteMap(key.len()),
+            Call::Increment(p, by, _) => ActionRow::Increment(p.map(|key| key.len()), by),
+            Call::FlagConflict(p) => ActionRow::Conflict(p.map(|key| key.len())),
+            Call::SpliceText(i, _) => ActionRow::SpliceText(i, units),
+        }
     }
 }
 
@@ -70,6 +75,6 @@ pub fn add_value(values: &mut Sequence<ValueRow>, call: Call, wide: bool)
     ensures capacity { capacity values.new ≡ capacity values.old }
 {
     if let Call::Insert(_, e) = call {
-        values.extend(&[value_row(e, wide)]);
+        values.extend(&[ValueRow::new(e, wide)]);
     }
 }

@@ -22,10 +22,10 @@ pub fn is_path(steps: &[StepRow], keys: &[u8]) -> bool
     let mut left = keys.len();
     for s in steps {
         let n = prop_len(s.prop);
-        if n > KEY_BYTES || n > left {
-            return false;
+        match left.checked_sub(n) {
+            Some(rest) if n <= KEY_BYTES => left = rest,
+            _ => return false,
         }
-        left -= n;
     }
     left == 0
 }

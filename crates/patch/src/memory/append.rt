@@ -9,8 +9,8 @@ ghost use Rattle.patch.specs.Made.{call_values, call_units, with_own, appending}
 ghost use Rattle.patch.specs.Held.{held_of, flags_of, enough};
 
 use super::PatchMemory;
-use crate::making::{action_row, add_value, own_units, value_count};
-use crate::rows::{PatchRow, Path, StepRow, ValueRow};
+use crate::making::{add_value, own_units, value_count};
+use crate::rows::{ActionRow, PatchRow, Path, StepRow, ValueRow};
 use patch_call::call::Call;
 use patch_call::check_call;
 use sequence_tree::sequence::Sequence;
@@ -100,7 +100,7 @@ impl<'m, U: Copy> PatchMemory<'m, U> {
             obj,
             steps: path.steps.len(),
             bytes: path.keys.len() + (key.len() + data.len()),
-            action: action_row(call, units.len(), wide),
+            action: ActionRow::new(call, units.len(), wide),
         }]);
         Ok(())
     }

@@ -76,9 +76,9 @@ own g c =
     let a = c.args in
     let m = a.self.now in
     let k = call_seen a.call in
-    let row : PatchRow = record { obj = a.obj; steps = length a.path.steps.now; bytes = length a.path.keys.now + (length c.key-key.result.now + length c.data-data.result.now); action = c.action_row.result } in
+    let row : PatchRow = record { obj = a.obj; steps = length a.path.steps.now; bytes = length a.path.keys.now + (length c.key-key.result.now + length c.data-data.result.now); action = c.new.result } in
     let made : row ≡ row_made a.obj a.path.steps.now a.path.keys.now k (length a.units.now) a.wide =
-    λ i. record { obj = a.obj; steps = length a.path.steps.now; bytes = length a.path.keys.now + (length (c.key-key.ensures i) + length (c.data-data.ensures i)); action = c.action_row.ensures i } in
+    λ i. record { obj = a.obj; steps = length a.path.steps.now; bytes = length a.path.keys.now + (length (c.key-key.ensures i) + length (c.data-data.ensures i)); action = c.new.ensures i } in
     let units : held c.extend-5.new.self ≡ held m.units ++ call_units k a.units.now = rw (c.extend-5.ensures.held, c.own_units.ensures) in
     let bytes : held c.extend-4.new.self ≡ held m.bytes ++ (a.path.keys.now ++ (call_key k ++ call_data k)) =
     rw (c.extend-4.ensures.held, c.extend-3.ensures.held, c.extend-2.ensures.held, c.key-key.ensures, c.data-data.ensures) (simp append_assoc) in
