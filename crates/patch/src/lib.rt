@@ -6,4 +6,6 @@ mod making;
 pub mod memory;
 pub mod path;
 pub mod rows;
+#[cfg(test)]
+mod tests;
 pub mod view;

@@ -15,6 +15,7 @@ use types::bounds::DELETION_LENGTH;
 use types::error::Refusal;
 
 // The last row gives way to another.
+#[tactic(auto, using(crate::proofs::Changes::set_newest))]
 pub fn set_tail(rows: &mut Sequence<PatchRow>, row: PatchRow)
     requires { 0 < length (held rows.old) }
     ensures newest { newest rows.new ≡ row ∷ drop 1 (newest rows.old) }
