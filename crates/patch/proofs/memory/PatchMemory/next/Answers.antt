@@ -1,7 +1,8 @@
 use Rattle.std.proofs.Common.{◌+◌, ◌∷◌, drop, sym, ap, ◌∙◌, arith}
 use Rattle.std.proofs.lemmas.Option.{slice_get_within}
 use Rattle.sequence_tree.specs.Sequences.{held}
-use Rattle.patch.specs.Told.{Parts, patch_told, told_forward}
+use Rattle.patch.specs.Told.{patch_told, told_forward}
+use Rattle.patch.specs.Walk.{parts_at}
 use Rattle.patch.proofs.Bounds.{within}
 use Rattle.patch.proofs.Walks.{nth_none, nth_some}
 use Rattle.patch.proofs.memory.PatchMemory.next.Goals as goal
@@ -10,8 +11,7 @@ pub returns-in_err-row : goal.returns-in_err-row
 returns-in_err-row g c =
     let m = c.args.self.now in
     let k = c.args.at in
-    let C : Parts g.row.U.Denot = record { steps = drop k.step (held m.steps); values = drop k.value (held m.values); units = drop k.unit (held m.units); bytes = drop k.byte (held m.bytes) } in
-    rw c.from_residual.ensures (ap (λ rs. told_forward rs C) (nth_none (held m.rows) k.row (sym c.get.ensures ∙ c.in_err-row.was)))
+    rw c.from_residual.ensures (ap (λ rs. told_forward rs (parts_at m k)) (nth_none (held m.rows) k.row (sym c.get.ensures ∙ c.in_err-row.was)))
 
 pub overflow_add-next : goal.overflow_add-next
 overflow_add-next g c =
@@ -23,11 +23,9 @@ pub returns : goal.returns
 returns g c =
     let m = c.args.self.now in
     let k = c.args.at in
-    let r = c.in_ok-row.row in
-    let C : Parts g.row.U.Denot = record { steps = drop k.step (held m.steps); values = drop k.value (held m.values); units = drop k.unit (held m.units); bytes = drop k.byte (held m.bytes) } in
     let s = rw c.as_slice.ensures at c.part-step.ensures in
     let v = rw (c.as_slice-2.ensures, c.value_count.ensures) at c.part-value.ensures in
     let u = rw (c.as_slice-3.ensures, c.unit_count.ensures) at c.part-unit.ensures in
     let b = rw c.as_slice-4.ensures at c.part-byte.ensures in
-    ap (λ rs. told_forward rs C) (nth_some (held m.rows) k.row r (sym c.get.ensures ∙ c.in_ok-row.was))
-    ∙ sym (λ i. patch_told r (record { steps = s.here i; values = v.here i; units = u.here i; bytes = b.here i }) ∷ told_forward (drop (k.row + 1) (held m.rows)) (record { steps = s.past i; values = v.past i; units = u.past i; bytes = b.past i }))
+    ap (λ rs. told_forward rs (parts_at m k)) (nth_some (held m.rows) k.row c.in_ok-row.row (sym c.get.ensures ∙ c.in_ok-row.was))
+    ∙ sym (λ i. patch_told c.in_ok-row.row (record { steps = s.here i; values = v.here i; units = u.here i; bytes = b.here i }) ∷ told_forward (drop (k.row + 1) (held m.rows)) (record { steps = s.past i; values = v.past i; units = u.past i; bytes = b.past i }))
