@@ -201,7 +201,7 @@ module _ (bs starts : List ℕ) (objects i : ℕ) (B : Bytes bs) (said : is_some
   found_at None x q e h =
       let f = head_there h in
       let k : ◌≡◌ {A = Got Head} None (Some (head_of f.object, put_row f.object.row ++ f.more)) = e ∙ (ap get_head q ∙ f.got) in
-      let z : ◌≡◌ {A = ℕ} 0 1 = cc in absurd (omega arith)
+      absurd cc
   found_at (Some p) x q e h =
       let f = head_there h in
       let k : ◌≡◌ {A = Got Head} (Some (p.0, p.1.now)) (Some (head_of f.object, put_row f.object.row ++ f.more)) = e ∙ (ap get_head q ∙ f.got) in
@@ -209,8 +209,8 @@ module _ (bs starts : List ℕ) (objects i : ℕ) (B : Bytes bs) (said : is_some
 
 -- What is at a place, as a member of the list.
 nth_at : {X : Type 0} (d : X) (xs : List X) (i : ℕ) (x : X) → nth xs i ≡ some x → (i < length xs) × (get_or xs i d ≡ x)
-nth_at d [] zero x e = let z : ◌≡◌ {A = ℕ} 0 1 = cc in absurd (omega arith)
-nth_at d [] (suc i) x e = let z : ◌≡◌ {A = ℕ} 0 1 = cc in absurd (omega arith)
+nth_at d [] zero x e = absurd cc
+nth_at d [] (suc i) x e = absurd cc
 nth_at d (y ∷ xs) zero x e = (omega arith, cc)
 nth_at d (y ∷ xs) (suc i) x e = let h = nth_at d xs i x e in (let l = h.0 in omega arith, h.1)
 

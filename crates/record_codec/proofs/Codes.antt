@@ -16,23 +16,8 @@ coded {X} code n k x rest t h f e = go (eqb n k) refl e
     go true g e = let i : x ≡ t = cc in eqb-true n k g ∙ (h ∙ ap code i)
     go false g e = f e
 
-nothing : {X : Type 0} (code : X → ℕ) (n : ℕ) (t : X) → ◌≡◌ {A = Option X} None (Some t) → n ≡ code t
-nothing code n t e = let z : ◌≡◌ {A = ℕ} 0 1 = cc in absurd (omega arith)
-
 pub type_back : (t : EntryType) → type_at (type_code t) ≡ Some t
-type_back ty.Null = refl
-type_back ty.False = refl
-type_back ty.True = refl
-type_back ty.Int = refl
-type_back ty.Uint = refl
-type_back ty.Timestamp = refl
-type_back ty.Counter = refl
-type_back ty.Str = refl
-type_back ty.Bytes = refl
-type_back (ty.Object Map) = refl
-type_back (ty.Object Table) = refl
-type_back (ty.Object Sequence) = refl
-type_back (ty.Object Text) = refl
+type_back t = grind arith
 
 pub type_forth : (n : ℕ) (t : EntryType) → type_at n ≡ Some t → n ≡ type_code t
 type_forth n t e =
@@ -40,48 +25,28 @@ type_forth n t e =
     (coded type_code n 3 ty.Int _ t refl (coded type_code n 4 ty.Uint _ t refl (coded type_code n 5 ty.Timestamp _ t refl
     (coded type_code n 6 ty.Counter _ t refl (coded type_code n 7 ty.Str _ t refl (coded type_code n 8 ty.Bytes _ t refl
     (coded type_code n 9 (ty.Object Map) _ t refl (coded type_code n 10 (ty.Object Table) _ t refl (coded type_code n 11 (ty.Object Sequence) _ t refl
-    (coded type_code n 12 (ty.Object Text) _ t refl (nothing type_code n t))))))))))))) e
+    (coded type_code n 12 (ty.Object Text) _ t refl (λ e. absurd cc))))))))))))) e
 
 pub type_small : (t : EntryType) → type_code t < 4294967296
-type_small ty.Null = omega arith
-type_small ty.False = omega arith
-type_small ty.True = omega arith
-type_small ty.Int = omega arith
-type_small ty.Uint = omega arith
-type_small ty.Timestamp = omega arith
-type_small ty.Counter = omega arith
-type_small ty.Str = omega arith
-type_small ty.Bytes = omega arith
-type_small (ty.Object Map) = omega arith
-type_small (ty.Object Table) = omega arith
-type_small (ty.Object Sequence) = omega arith
-type_small (ty.Object Text) = omega arith
+type_small t = grind arith
 
 pub kind_back : (k : ObjType) → kind_at (kind_code k) ≡ Some k
-kind_back Map = refl
-kind_back Table = refl
-kind_back Sequence = refl
-kind_back Text = refl
+kind_back k = grind arith
 
 pub kind_forth : (n : ℕ) (k : ObjType) → kind_at n ≡ Some k → n ≡ kind_code k
-kind_forth n t e = coded kind_code n 0 Map _ t refl (coded kind_code n 1 Table _ t refl (coded kind_code n 2 Sequence _ t refl (coded kind_code n 3 Text _ t refl (nothing kind_code n t)))) e
+kind_forth n k e = grind (arith, e)
 
 kind_small : (k : ObjType) → kind_code k < 4294967296
-kind_small Map = omega arith
-kind_small Table = omega arith
-kind_small Sequence = omega arith
-kind_small Text = omega arith
+kind_small k = grind arith
 
 flag_back : (b : Bool) → flag_at (flag_code b) ≡ Some b
-flag_back false = refl
-flag_back true = refl
+flag_back b = grind arith
 
 flag_forth : (n : ℕ) (b : Bool) → flag_at n ≡ Some b → n ≡ flag_code b
-flag_forth n t e = coded flag_code n 0 false _ t refl (coded flag_code n 1 true _ t refl (nothing flag_code n t)) e
+flag_forth n b e = grind (arith, e)
 
 flag_small : (b : Bool) → flag_code b < 4294967296
-flag_small false = omega arith
-flag_small true = omega arith
+flag_small b = grind arith
 
 -- A code of four bytes, and what it stands for: kinds and flags.
 module _ {X : Type 0} (read : ℕ → Option X) (code : X → ℕ) (small : (x : X) → code x < 4294967296) (back : (x : X) → read (code x) ≡ Some x) (forth : (n : ℕ) (x : X) → read n ≡ Some x → n ≡ code x) where

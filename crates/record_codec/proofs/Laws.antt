@@ -23,7 +23,7 @@ pub record Step {A B : Type 0} (x : Got A) (f : A → List ℕ → Got B) (b : B
   pub second : f val mid ≡ Some (b, s)
 
 pub step : {A B : Type 0} (x : Got A) (f : A → List ℕ → Got B) (b : B) (s : List ℕ) → next x f ≡ Some (b, s) → Step x f b s
-step None f b s e = let z : ◌≡◌ {A = ℕ} 0 1 = cc in absurd (omega arith)
+step None f b s e = absurd cc
 step (Some p) f b s e = record { val = p.0; mid = p.1; first = refl; second = e }
 
 pub record Choice {A B : Type 0} (x : Option A) (f : A → Got B) (b : B) (s : List ℕ) : Type 0 where
@@ -32,7 +32,7 @@ pub record Choice {A B : Type 0} (x : Option A) (f : A → Got B) (b : B) (s : L
   pub second : f val ≡ Some (b, s)
 
 pub choice : {A B : Type 0} (x : Option A) (f : A → Got B) (b : B) (s : List ℕ) → decide x f ≡ Some (b, s) → Choice x f b s
-choice None f b s e = let z : ◌≡◌ {A = ℕ} 0 1 = cc in absurd (omega arith)
+choice None f b s e = absurd cc
 choice (Some p) f b s e = record { val = p; first = refl; second = e }
 
 pub val_is : {A : Type 0} (a b : A) (r s : List ℕ) → ◌≡◌ {A = Got A} (Some (a, r)) (Some (b, s)) → a ≡ b
@@ -45,10 +45,10 @@ back32 : (n : ℕ) (r : List ℕ) → n < 4294967296 → get32 (put32 n ++ r) �
 back32 n r h = ap {B = Got ℕ} (λ k. Some (k, r)) (omega arith)
 
 forth32 : (bs : List ℕ) (a : ℕ) (r : List ℕ) → Bytes bs → get32 bs ≡ Some (a, r) → Split put32 (λ n. n < 4294967296) bs a r
-forth32 [] n r B e = let z : ◌≡◌ {A = ℕ} 0 1 = cc in absurd (omega arith)
-forth32 (a ∷ []) n r B e = let z : ◌≡◌ {A = ℕ} 0 1 = cc in absurd (omega arith)
-forth32 (a ∷ (b ∷ [])) n r B e = let z : ◌≡◌ {A = ℕ} 0 1 = cc in absurd (omega arith)
-forth32 (a ∷ (b ∷ (c ∷ []))) n r B e = let z : ◌≡◌ {A = ℕ} 0 1 = cc in absurd (omega arith)
+forth32 [] n r B e = absurd cc
+forth32 (a ∷ []) n r B e = absurd cc
+forth32 (a ∷ (b ∷ [])) n r B e = absurd cc
+forth32 (a ∷ (b ∷ (c ∷ []))) n r B e = absurd cc
 forth32 (a ∷ (b ∷ (c ∷ (d ∷ s)))) n r B e =
     let v : a * 16777216 + b * 65536 + c * 256 + d ≡ n = val_is _ n s r e in
     let w : s ≡ r = rest_is _ n s r e in
@@ -125,7 +125,7 @@ forth_bytes n bs t r B e = go (leb n (length bs)) refl e
           good = subst Bytes v (every_take (λ b. b < 256) n bs B);
           rest = subst Bytes w (every_drop (λ b. b < 256) n bs B);
         }
-    go false f e = let z : ◌≡◌ {A = ℕ} 0 1 = cc in absurd (omega arith)
+    go false f e = absurd cc
 
 back_text : (t r : List ℕ) → (length t < 4294967296) × Bytes t → get_text (put_text t ++ r) ≡ Some (t, r)
 back_text t r h =
@@ -164,7 +164,7 @@ module _ {A : Type 0} (get : List ℕ → Got A) (put : A → List ℕ) (Good : 
 
   pub forth_many : (n : ℕ) (bs : List ℕ) (xs : List A) (r : List ℕ) → Bytes bs → get_many get n bs ≡ Some (xs, r) → Ran n bs xs r
   forth_many zero bs [] r B e = record { whole = rest_is {A = List A} [] [] bs r e; sized = refl; good = tt; rest = subst Bytes (rest_is {A = List A} [] [] bs r e) B }
-  forth_many zero bs (x ∷ xs) r B e = let v : ◌≡◌ {A = List A} [] (x ∷ xs) = val_is _ _ bs r e in let z : ◌≡◌ {A = ℕ} 0 1 = cc in absurd (omega arith)
+  forth_many zero bs (x ∷ xs) r B e = let v : ◌≡◌ {A = List A} [] (x ∷ xs) = val_is _ _ bs r e in absurd cc
   forth_many (suc n) bs xs r B e =
       let s1 = step (get bs) (λ a r. next (get_many get n r) (λ more s. Some (a ∷ more, s))) xs r e in
       let s2 = step (get_many get n s1.mid) (λ more s. Some (s1.val ∷ more, s)) xs r s1.second in

@@ -1,4 +1,3 @@
-pub mod Basics
 pub mod Laws
 pub mod Codes
 pub mod Contents

@@ -196,7 +196,7 @@ law_doc = law_list get_obj put_obj WritableObj law_obj
 -- Whole records.
 kept : {A : Type 0} (b : Bool) (x : Option A) (d : A) → cond b x None ≡ Some d → (b ≡ true) × (x ≡ Some d)
 kept true x d e = (refl, e)
-kept false x d e = let z : ◌≡◌ {A = ℕ} 0 1 = cc in absurd (omega arith)
+kept false x d e = absurd cc
 
 -- What was read of all the bytes.
 pub record Whole (bs : List ℕ) (d : Doc) : Type 0 where
@@ -205,7 +205,7 @@ pub record Whole (bs : List ℕ) (d : Doc) : Type 0 where
   pub short : length bs ≤ 65536
 
 whole_of : (bs : List ℕ) (d : Doc) (x : Got Doc) → get_list get_obj bs ≡ x → Bytes bs → length bs ≤ 65536 → ended x ≡ Some d → Whole bs d
-whole_of bs d None q B l e = let z : ◌≡◌ {A = ℕ} 0 1 = cc in absurd (omega arith)
+whole_of bs d None q B l e = absurd cc
 whole_of bs d (Some x) q B l e =
     let t = kept (eqb (length x.1) 0) (Some x.0) d e in
     let i : x.0 ≡ d = cc t.1 in
@@ -226,7 +226,7 @@ pub said_parses : (bs : List ℕ) (d : Doc) → says bs ≡ Some d → Ordered b
 said_parses bs d e = go (parsed bs) refl e
   where
     go : (x : Option Doc) → parsed bs ≡ x → in_order x ≡ Some d → Ordered bs d
-    go None q e = let z : ◌≡◌ {A = ℕ} 0 1 = cc in absurd (omega arith)
+    go None q e = absurd cc
     go (Some y) q e =
         let t = kept (rises y) (Some y) d e in
         let i : y ≡ d = cc t.1 in

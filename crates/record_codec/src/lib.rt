@@ -1,5 +1,6 @@
 #![tactic(auto)]
 
+mod code;
 mod entry_type;
 pub mod limit;
 pub mod read;

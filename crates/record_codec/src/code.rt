@@ -1,0 +1,29 @@
+ghost use Rattle.std.specs.Prelude.{◌≡◌};
+ghost use Rattle.record_codec.specs.Layout.{kind_at, flag_at};
+
+use types::types::ObjType;
+
+// What a code stands for, where a layout of records and not the type has the
+// codes: `TryFrom` is for a type of the crate's own.
+
+pub fn kind_at(code: u32) -> Option<ObjType>
+    ensures { result ≡ kind_at code }
+{
+    match code {
+        0 => Some(ObjType::Map),
+        1 => Some(ObjType::Table),
+        2 => Some(ObjType::List),
+        3 => Some(ObjType::Text),
+        _ => None,
+    }
+}
+
+pub fn flag_at(code: u32) -> Option<bool>
+    ensures { result ≡ flag_at code }
+{
+    match code {
+        0 => Some(false),
+        1 => Some(true),
+        _ => None,
+    }
+}
