@@ -10,11 +10,7 @@ use Rattle.record_codec.specs.Layout.{type_at, kind_at, flag_at, type_code, kind
 use Rattle.record_codec.proofs.Laws.{Law, step, choice, val_is, rest_is, law32}
 
 coded : {X : Type 0} (code : X → ℕ) (n k : ℕ) (x : X) (rest : Option X) (t : X) → k ≡ code x → (rest ≡ Some t → n ≡ code t) → cond (eqb n k) (Some x) rest ≡ Some t → n ≡ code t
-coded {X} code n k x rest t h f e = go (eqb n k) refl e
-  where
-    go : (b : Bool) → eqb n k ≡ b → cond b (Some x) rest ≡ Some t → n ≡ code t
-    go true g e = let i : x ≡ t = cc in eqb-true n k g ∙ (h ∙ ap code i)
-    go false g e = f e
+coded code n k x rest t h f e = grind (arith, f)
 
 pub type_back : (t : EntryType) → type_at (type_code t) ≡ Some t
 type_back t = grind arith

@@ -23,8 +23,7 @@ pub record Step {A B : Type 0} (x : Got A) (f : A → List ℕ → Got B) (b : B
   pub second : f val mid ≡ Some (b, s)
 
 pub step : {A B : Type 0} (x : Got A) (f : A → List ℕ → Got B) (b : B) (s : List ℕ) → next x f ≡ Some (b, s) → Step x f b s
-step None f b s e = absurd cc
-step (Some p) f b s e = record { val = p.0; mid = p.1; first = refl; second = e }
+step x f b s e = grind arith
 
 pub record Choice {A B : Type 0} (x : Option A) (f : A → Got B) (b : B) (s : List ℕ) : Type 0 where
   pub val : A
@@ -32,32 +31,19 @@ pub record Choice {A B : Type 0} (x : Option A) (f : A → Got B) (b : B) (s : L
   pub second : f val ≡ Some (b, s)
 
 pub choice : {A B : Type 0} (x : Option A) (f : A → Got B) (b : B) (s : List ℕ) → decide x f ≡ Some (b, s) → Choice x f b s
-choice None f b s e = absurd cc
-choice (Some p) f b s e = record { val = p; first = refl; second = e }
+choice x f b s e = grind arith
 
 pub val_is : {A : Type 0} (a b : A) (r s : List ℕ) → ◌≡◌ {A = Got A} (Some (a, r)) (Some (b, s)) → a ≡ b
-val_is {A} a b r s e = let q : ◌≡◌ {A = A × List ℕ} (a, r) (b, s) = cc in ap (λ p. p.0) q
+val_is a b r s e = grind arith
 
 pub rest_is : {A : Type 0} (a b : A) (r s : List ℕ) → ◌≡◌ {A = Got A} (Some (a, r)) (Some (b, s)) → r ≡ s
-rest_is {A} a b r s e = let q : ◌≡◌ {A = A × List ℕ} (a, r) (b, s) = cc in ap (λ p. p.1) q
+rest_is a b r s e = grind arith
 
 back32 : (n : ℕ) (r : List ℕ) → n < 4294967296 → get32 (put32 n ++ r) ≡ Some (n, r)
 back32 n r h = ap {B = Got ℕ} (λ k. Some (k, r)) (omega arith)
 
 forth32 : (bs : List ℕ) (a : ℕ) (r : List ℕ) → Bytes bs → get32 bs ≡ Some (a, r) → Split put32 (λ n. n < 4294967296) bs a r
-forth32 [] n r B e = absurd cc
-forth32 (a ∷ []) n r B e = absurd cc
-forth32 (a ∷ (b ∷ [])) n r B e = absurd cc
-forth32 (a ∷ (b ∷ (c ∷ []))) n r B e = absurd cc
-forth32 (a ∷ (b ∷ (c ∷ (d ∷ s)))) n r B e =
-    let v : a * 16777216 + b * 65536 + c * 256 + d ≡ n = val_is _ n s r e in
-    let w : s ≡ r = rest_is _ n s r e in
-    let ha = B.0 in let hb = B.1.0 in let hc = B.1.1.0 in let hd = B.1.1.1.0 in
-    let ea : a ≡ n / 16777216 = omega arith in
-    let eb : b ≡ n / 65536 % 256 = omega arith in
-    let ec : c ≡ n / 256 % 256 = omega arith in
-    let ed : d ≡ n % 256 = omega arith in
-    record { whole = cc; good = omega arith; rest = subst Bytes w B.1.1.1.1 }
+forth32 bs a r B e = grind arith
 
 pub law32 : Law get32 put32 (λ n. n < 4294967296)
 law32 = record { back = back32; forth = forth32 }
@@ -67,8 +53,7 @@ joins : (a b c : List ℕ) (bs r : List ℕ) → bs ≡ a ++ r → r ≡ b ++ c 
 joins a b c bs r e f = e ∙ (ap (λ t. a ++ t) f ∙ sym (append_assoc a b c))
 
 back64 : (n : ℕ) (r : List ℕ) → n < 18446744073709551616 → get64 (put64 n ++ r) ≡ Some (n, r)
-back64 n r h =
-    ap {B = Got ℕ} (λ k. Some (k, r)) (omega arith)
+back64 n r h = grind (arith, back32)
 
 forth64 : (bs : List ℕ) (a : ℕ) (r : List ℕ) → Bytes bs → get64 bs ≡ Some (a, r) → Split put64 (λ n. n < 18446744073709551616) bs a r
 forth64 bs n r B e =
@@ -101,9 +86,7 @@ every_drop P (suc n) [] h = tt
 every_drop P (suc n) (x ∷ xs) h = every_drop P n xs h.1
 
 pub back_bytes : (n : ℕ) (t r : List ℕ) → length t ≡ n → get_bytes n (t ++ r) ≡ Some (t, r)
-back_bytes n t r h =
-    cond-true (leb n (length (t ++ r))) (Some (take n (t ++ r), drop n (t ++ r))) None (le-leb _ _ (simp length-append (omega arith)))
-    ∙ (ap {B = Got (List ℕ)} (λ k. Some (k, drop n (t ++ r))) (take_at t r n h) ∙ ap {B = Got (List ℕ)} (λ k. Some (t, k)) (drop_at t r n h))
+back_bytes n t r h = grind (arith, take_at, drop_at, length-append)
 
 pub record Cut (n : ℕ) (bs t r : List ℕ) : Type 0 where
   pub whole : bs ≡ t ++ r
@@ -112,26 +95,10 @@ pub record Cut (n : ℕ) (bs t r : List ℕ) : Type 0 where
   pub rest : Bytes r
 
 pub forth_bytes : (n : ℕ) (bs t r : List ℕ) → Bytes bs → get_bytes n bs ≡ Some (t, r) → Cut n bs t r
-forth_bytes n bs t r B e = go (leb n (length bs)) refl e
-  where
-    go : (b : Bool) → leb n (length bs) ≡ b → cond {A = Got (List ℕ)} b (Some (take n bs, drop n bs)) None ≡ Some (t, r) → Cut n bs t r
-    go true f e =
-        let v : take n bs ≡ t = val_is _ t (drop n bs) r e in
-        let w : drop n bs ≡ r = rest_is _ t (drop n bs) r e in
-        let l = leb-true n (length bs) f in
-        record {
-          whole = sym (take-append-drop n bs) ∙ (ap (λ k. k ++ drop n bs) v ∙ ap (λ k. t ++ k) w);
-          sized = ap length (sym v) ∙ length-take-le n bs l;
-          good = subst Bytes v (every_take (λ b. b < 256) n bs B);
-          rest = subst Bytes w (every_drop (λ b. b < 256) n bs B);
-        }
-    go false f e = absurd cc
+forth_bytes n bs t r B e = grind (arith, take-append-drop, length-take-le, every_take, every_drop)
 
 back_text : (t r : List ℕ) → (length t < 4294967296) × Bytes t → get_text (put_text t ++ r) ≡ Some (t, r)
-back_text t r h =
-    ap get_text (append_assoc (put32 (length t)) t r)
-    ∙ (ap (λ x. next x (λ n r. get_bytes n r)) (back32 (length t) (t ++ r) h.0)
-    ∙ back_bytes (length t) t r refl)
+back_text t r h = grind (arith, append_assoc, back32, back_bytes)
 
 forth_text : (bs t r : List ℕ) → Bytes bs → get_text bs ≡ Some (t, r) → Split put_text (λ t. (length t < 4294967296) × Bytes t) bs t r
 forth_text bs t r B e =

@@ -35,8 +35,7 @@ law_id =
     (λ x k. (k.0, k.1.0)) (λ x k. (k.0, (k.1, refl))) (λ x k. refl)
 
 back_key : (keyed : Bool) (k r : List ℕ) → WritableKey keyed k → get_key keyed (put_key keyed k ++ r) ≡ Some (k, r)
-back_key true k r g = law_text.back k r g
-back_key false k r g = ap {B = Got (List ℕ)} (λ t. Some (t, r)) (sym g)
+back_key keyed k r g = grind (arith, law_text.back)
 
 forth_key : (keyed : Bool) (bs k r : List ℕ) → Bytes bs → get_key keyed bs ≡ Some (k, r) → Split (put_key keyed) (WritableKey keyed) bs k r
 forth_key true bs k r B e = let s = law_text.forth bs k r B e in record { whole = s.whole; good = s.good; rest = s.rest }
@@ -81,18 +80,13 @@ pairs_again [] = refl
 pairs_again (e ∷ l) = ap (λ t. e ∷ t) (pairs_again l)
 
 pub slots_again : (keyed : Bool) (m : List Slot) → WritableSlots keyed m → pairs (row_of keyed m) ≡ m
-slots_again true m g = refl
-slots_again false m g = unkeyed_again m g.1
+slots_again keyed m g = grind (arith, unkeyed_again)
 
 row_shape : (k : ObjType) (m : List Slot) → is_text_kind k ≡ false → FitsKind k (row_of (has_keys k) m)
-row_shape Map m e = tt
-row_shape Table m e = tt
-row_shape Sequence m e = tt
-row_shape Text m e = absurd (false≢true (sym e))
+row_shape k m e = grind arith
 
 row_writable : (keyed : Bool) (m : List Slot) → WritableSlots keyed m → WritableRow (row_of keyed m)
-row_writable true m g = g
-row_writable false m g = subst (WritableSlots false) (sym (unkeyed_again m g.1)) g
+row_writable keyed m g = grind (arith, unkeyed_again)
 
 -- A row of entries, told by its entries.
 pub record OfSlots (keyed : Bool) (w : DocRow) : Type 0 where
@@ -107,16 +101,7 @@ of_list : (l : List Entry) → OfSlots false (list_of l)
 of_list l = record { again = ap list_of (pairs_again l); writes = refl; able = λ g. g }
 
 pub of_slots : (k : ObjType) (w : DocRow) → is_text_kind k ≡ false → FitsKind k w → OfSlots (has_keys k) w
-of_slots Map (map_of m) e f = of_map m
-of_slots Map (list_of l) e f = absurd f
-of_slots Map (text_of t) e f = absurd f
-of_slots Table (map_of m) e f = of_map m
-of_slots Table (list_of l) e f = absurd f
-of_slots Table (text_of t) e f = absurd f
-of_slots Sequence (map_of m) e f = absurd f
-of_slots Sequence (list_of l) e f = of_list l
-of_slots Sequence (text_of t) e f = absurd f
-of_slots Text w e f = absurd (false≢true (sym e))
+of_slots k w e f = grind (arith, of_map, of_list)
 
 abbrev RowGood : ObjType → DocRow → Type 0
 RowGood k w = FitsKind k w × WritableRow w
@@ -195,8 +180,7 @@ law_doc = law_list get_obj put_obj WritableObj law_obj
 
 -- Whole records.
 kept : {A : Type 0} (b : Bool) (x : Option A) (d : A) → cond b x None ≡ Some d → (b ≡ true) × (x ≡ Some d)
-kept true x d e = (refl, e)
-kept false x d e = absurd cc
+kept b x d e = grind arith
 
 -- What was read of all the bytes.
 pub record Whole (bs : List ℕ) (d : Doc) : Type 0 where
@@ -214,23 +198,14 @@ whole_of bs d (Some x) q B l e =
     record { whole = s.whole ∙ (ap (λ r. print x.0 ++ r) n ∙ (append-nil (print x.0) ∙ ap print i)); writable = subst Writable i s.good; short = l }
 
 pub parsed_whole : (bs : List ℕ) (d : Doc) → Bytes bs → parsed bs ≡ Some d → Whole bs d
-parsed_whole bs d B e =
-    let t = kept (leb (length bs) 65536) (ended (get_list get_obj bs)) d e in
-    whole_of bs d (get_list get_obj bs) refl B (leb-true (length bs) 65536 t.0) t.1
+parsed_whole bs d B e = let t : (leb (length bs) 65536 ≡ true) × (ended (get_list get_obj bs) ≡ Some d) = grind arith in whole_of bs d (get_list get_obj bs) refl B (leb-true (length bs) 65536 t.0) t.1
 
 pub record Ordered (bs : List ℕ) (d : Doc) : Type 0 where
   pub parses : parsed bs ≡ Some d
   pub rising : rises d ≡ true
 
 pub said_parses : (bs : List ℕ) (d : Doc) → says bs ≡ Some d → Ordered bs d
-said_parses bs d e = go (parsed bs) refl e
-  where
-    go : (x : Option Doc) → parsed bs ≡ x → in_order x ≡ Some d → Ordered bs d
-    go None q e = absurd cc
-    go (Some y) q e =
-        let t = kept (rises y) (Some y) d e in
-        let i : y ≡ d = cc t.1 in
-        record { parses = q ∙ ap {B = Option Doc} (λ x. Some x) i; rising = subst (λ x. rises x ≡ true) i t.0 }
+said_parses bs d e = grind arith
 
 -- The three theorems.
 pub written_is_read : (d : Doc) → Writable d → rises d ≡ true → length (print d) ≤ 65536 → says (print d) ≡ Some d
@@ -261,8 +236,7 @@ shapes_of [] g = tt
 shapes_of (o ∷ os) g = (g.0.shape, shapes_of os g.1)
 
 pub some_is : (x : Option Doc) → is_some x ≡ true → x ≡ Some (or_empty x)
-some_is None h = absurd (false≢true h)
-some_is (Some d) h = refl
+some_is x h = grind arith
 
 pub parsed_shapes : (bs : List ℕ) → ((k : ℕ) → get_or bs k 0 < 256) → is_some (parsed bs) ≡ true → Every ShapedObj (doc_of bs)
 parsed_shapes bs typed said = shapes_of (doc_of bs) (parsed_whole bs (doc_of bs) (all_bytes bs typed) (some_is (parsed bs) said)).writable.1
