@@ -22,13 +22,13 @@ module _ (s : RecordIndex) where
 
   -- An entry of an object that was found, below the count that was read.
   module _ (i n : ℕ) (h : Head) (rest : List ℕ) (f : Found (doc_of s.bytes.now) i h rest) (e : is_text_kind h.kind ≡ false) (v : ℕ) (r : List ℕ) (q : ◌≡◌ {A = Got ℕ} (Some (v, r)) (get32 rest)) (l : n < v) where
-    pub there : SlotRead s.bytes.now s.firsts s.places s.objects i bytes_are s.said s.counted s.numbered s.indexed f.object n f.there
+    pub there : SlotRead s.bytes.now s.places.firsts s.places.entries s.objects i bytes_are s.said s.counted s.numbered s.indexed f.object n f.there
     there =
-        slot_there s.bytes.now s.firsts s.places s.objects i bytes_are s.said s.counted s.numbered s.indexed f.object n f.there
+        slot_there s.bytes.now s.places.firsts s.places.entries s.objects i bytes_are s.said s.counted s.numbered s.indexed f.object n f.there
         (let a = size_is s.bytes.now i bytes_are s.said h rest f v r q in let b = entries_are s.bytes.now i bytes_are s.said h rest f e in omega arith)
 
     abbrev at : ℕ
-    at = get_or s.places (get_or s.firsts i 0 + n) 0
+    at = get_or s.places.entries (get_or s.places.firsts i 0 + n) 0
 
     -- What the reader of entries sees there.
     reads : (keyed : Bool) (x : List ℕ) → keyed ≡ has_keys h.kind → x ≡ drop at s.bytes.now → get_slot keyed x ≡ Some (there.slot, there.more)

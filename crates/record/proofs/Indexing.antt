@@ -5,6 +5,7 @@ use Rattle.meaning.specs.Lists.{Every}
 use Rattle.record_codec.specs.Codec.{Got, next, Bytes, get_many, put_many}
 use Rattle.record_codec.specs.Layout.{Slot, put_slot}
 use Rattle.record_codec.proofs.Laws.{Law, back_many}
+use Rattle.record_codec.proofs.Records.{all_bytes}
 use Rattle.record.specs.Index.{offsets}
 use Rattle.record.specs.Reading.{Ran}
 
@@ -44,7 +45,7 @@ every_push : {X : Type 0} (P : X → Type 0) (xs : List X) (x : X) → Every P x
 every_push P [] x h p = (p, tt)
 every_push P (y ∷ xs) x h p = (h.0, every_push P xs x h.1 p)
 
-module _ {A : Type 0} (get : List ℕ → Got A) (put : A → List ℕ) (Good : A → Type 0) (law : Law get put Good) where
+module _ {A : Type 0} {get : List ℕ → Got A} {put : A → List ℕ} {Good : A → Type 0} (law : Law get put Good) where
   stops : (xs : List A) (n : ℕ) (r : List ℕ) → Every Good xs → length xs < n → get r ≡ None → get_many get n (put_many put xs ++ r) ≡ None
   stops xs zero r g h e = absurd (omega arith)
   stops [] (suc n) r g h e = ap (λ t. next t (λ a r. next (get_many get n r) (λ more s. Some (a ∷ more, s)))) e
@@ -53,7 +54,7 @@ module _ {A : Type 0} (get : List ℕ → Got A) (put : A → List ℕ) (Good : 
       ∙ (ap (λ t. next t (λ a r. next (get_many get n r) (λ more s. Some (a ∷ more, s)))) (law.back x (put_many put xs ++ r) g.0)
       ∙ ap (λ t. next t (λ more s. Some (x ∷ more, s))) (stops xs n r g.1 (omega arith) e))
 
-  module _ (i total from : ℕ) (bs old new r : List ℕ) (done : List A) (now : Going put Good i total from bs old new r done) where
+  module _ {i total from : ℕ} {bs old new r : List ℕ} {done : List A} (now : Going put Good i total from bs old new r done) where
     pub halted : (n : ℕ) → i < n → get r ≡ None → get_many get n bs ≡ None
     halted n h e = ap (get_many get n) now.whole ∙ stops done n r now.good (let z = now.sized in omega arith) e
 
@@ -92,8 +93,12 @@ slot_long keyed x = simp length-append (omega arith)
 
 -- What a slice of bytes holds is bytes.
 pub typed_bytes : (bs : List ℕ) → ((i : ℕ) → Fits w8 (get_or bs i 0)) → Bytes bs
-typed_bytes [] f = tt
-typed_bytes (b ∷ bs) f = ((f 0).fits, typed_bytes bs (λ i. f (suc i)))
+typed_bytes bs f = all_bytes bs (λ i. (f i).fits)
+
+pub each_byte : (bs : List ℕ) → Bytes bs → (k : ℕ) → get_or bs k 0 < 256
+each_byte [] h k = omega arith
+each_byte (b ∷ bs) h zero = h.0
+each_byte (b ∷ bs) h (suc k) = each_byte bs h.1 k
 
 pub starts_out : {A : Type 0} (put : A → List ℕ) (Good : A → Type 0) (total from : ℕ) (bs old : List ℕ) → Bytes bs → Going put Good 0 total from bs old old bs []
 starts_out put Good total from bs old B = record {

@@ -1,8 +1,12 @@
 -- A row that was read, and one object after another, with the index so far.
-use Rattle.std.proofs.Common.{◌≡◌, ℕ, ◌+◌, ◌-◌, ◌*◌, ◌<◌, ◌≤◌, Bool, true, false, List, [], ◌∷◌, ◌++◌, length, take, set, Some, None, sym, refl, ap, ◌∙◌, subst, append_assoc, add_assoc, arith, length-append}
+use Rattle.std.proofs.Common.{◌≡◌, ℕ, ◌+◌, ◌-◌, ◌*◌, ◌<◌, ◌≤◌, Bool, true, false, not, List, [], ◌∷◌, ◌++◌, length, take, set, Some, None, Option, sym, refl, ap, ◌∙◌, subst, append_assoc, add_assoc, arith, length-append}
 use Rattle.std.proofs.lemmas.List.{append-nil, take_more_set}
 use Rattle.std.proofs.lemmas.Bool.{cond-true, cond-false}
+use denote.Enum.Bare.{sameb}
+use Rattle.types.specs.contracts.types.ObjType.{the_type}
+use Rattle.types.specs.Kinds.{is_sequence}
 use Rattle.types.specs.declared.types.ObjType.{ObjType}
+use Rattle.types.specs.declared.types.ObjType.TheVariants.{Map, Table, List as Sequence, Text}
 use Rattle.document.specs.declared.view.Head.{Head}
 use Rattle.document.specs.Places.{unkeyed, pairs}
 use Rattle.meaning.specs.Rows.{map_of, list_of, text_of}
@@ -10,9 +14,10 @@ use Rattle.meaning.specs.Documents.{DocRow, Obj, Doc, is_text_kind}
 use Rattle.record_codec.specs.Codec.{next, Bytes, get32, put32, get_text, get_many, put_many}
 use Rattle.record_codec.specs.Layout.{Slot, get_slot, put_slot, row_of, has_keys, get_words, get_entries, get_row, put_row, get_head, put_head, object_as, get_obj, put_obj, WritableSlot, WritableObj}
 use Rattle.record_codec.proofs.Laws.{law32, forth_many}
-use Rattle.record_codec.proofs.Records.{law_slot, law_slots, slots_again, law_head, law_row, law_obj}
+use Rattle.record_codec.proofs.Records.{all_bytes, law_slot, law_slots, slots_again, law_head, law_row, law_obj}
 use Rattle.record.specs.Index.{offsets, entry_offsets, first_numbers, entry_count}
-use Rattle.record.specs.Reading.{Ran, RanRow, RanAll}
+use Rattle.record.specs.declared.cursor.Cursor.{Cursor}
+use Rattle.record.specs.Reading.{Ran, RanRow, IndexesEntries, IndexesRow, RanAll}
 use Rattle.record.proofs.Indexing.{Going, halted, finished, goes_on, slot_long}
 
 pub text_row : (k : ObjType) (total from : ℕ) (bs old t r : List ℕ) → is_text_kind k ≡ true → get_text bs ≡ Some (t, r) → RanRow k total from bs old old from r
@@ -40,6 +45,29 @@ entries_row k total from bs old new keyed n r end es B fit h q e ran' =
       indexed = ran.indexed ∙ (ap (λ m. take from old ++ offsets (put_slot (has_keys k)) m es) {x = total - length r} {y = (total - length bs) + 4} (omega arith)
           ∙ ap (λ m. take from old ++ offsets (put_slot (has_keys k)) (total - length bs + 4) m) (sym a));
     }
+
+-- The kind of a row, as the code tests it.
+pub text_is : (k : ObjType) (b : Bool) → b ≡ sameb the_type k Text → is_text_kind k ≡ b
+text_is Map b e = sym e
+text_is Table b e = sym e
+text_is Sequence b e = sym e
+text_is Text b e = sym e
+
+pub keys_are : (k : ObjType) (b : Bool) → b ≡ is_sequence k → not b ≡ has_keys k
+keys_are k b e = grind arith
+
+-- The entries of a row, read behind its count.
+pub row_indexed : (k : ObjType) (from mid : Cursor) (old new : List ℕ) {keyed : Bool} {n : ℕ} {r : List ℕ} (res : Option Cursor) → is_text_kind k ≡ false → keyed ≡ has_keys k → Some (n, r) ≡ get32 from.rest.now
+    → mid.total ≡ from.total → mid.rest.now ≡ r → mid.entries ≡ from.entries → IndexesEntries keyed n mid old new res → IndexesRow k from old new res
+row_indexed k from mid old new {keyed = keyed} {n = n} {r = r} None h q e t m z f =
+    cond-false (is_text_kind k) (get_words from.rest.now) (get_entries (has_keys k) from.rest.now) h
+    ∙ (ap (λ x. next (next x (λ n r. get_many (get_slot (has_keys k)) n r)) (λ m r. Some (row_of (has_keys k) m, r))) (sym e)
+    ∙ ap (λ x. next x (λ m r. Some (row_of (has_keys k) m, r))) (ap (λ y. get_many (get_slot y) n r) (sym q) ∙ (ap (get_many (get_slot keyed) n) (sym m) ∙ f)))
+row_indexed k from mid old new {keyed = keyed} {n = n} {r = r} (Some at) h q e t m z f =
+    let ran : Ran (get_slot keyed) (put_slot keyed) n from.total from.entries r old new at.rest.now f.slots = subst (λ w. Ran (get_slot keyed) (put_slot keyed) n w from.entries r old new at.rest.now f.slots) t (subst (λ w. Ran (get_slot keyed) (put_slot keyed) n mid.total w r old new at.rest.now f.slots) z (subst (λ w. Ran (get_slot keyed) (put_slot keyed) n mid.total mid.entries w old new at.rest.now f.slots) m f.ran)) in
+    let l = from.room in
+    let row = entries_row k from.total from.entries from.rest.now old new keyed n r at.rest.now f.slots (all_bytes from.rest.now from.typed) (omega arith) h q (sym e) ran in
+    (f.total ∙ t, subst (λ w. RanRow k from.total from.entries from.rest.now old new w at.rest.now) (sym (f.next ∙ ap (λ w. w + n) z)) row)
 
 -- One more object at the end.
 entry_offsets_push : (at : ℕ) (d : Doc) (o : Obj) → entry_offsets at (d ++ o ∷ []) ≡ entry_offsets at d ++ offsets (put_slot (has_keys o.kind)) ((at + length (put_many put_obj d)) + 24) (pairs o.row)
@@ -87,13 +115,13 @@ filling_starts total bs starts firsts places B fit = record {
   objects_room = omega arith;
 }
 
-module _ (i n total : ℕ) (bs starts firsts places r : List ℕ) (done : Doc) (now : Filling i n total bs starts firsts places r done) where
+module _ {i n total : ℕ} {bs starts firsts places r : List ℕ} {done : Doc} (now : Filling i n total bs starts firsts places r done) where
   pub no_head : (count : ℕ) → i < count → get_head r ≡ None → get_many get_obj count bs ≡ None
-  no_head count l e = halted get_obj put_obj WritableObj law_obj i total 0 bs [] starts r done now.going count l (ap (λ x. next x (λ h t. next (get_row h.kind t) (λ w u. Some (object_as h w, u)))) e)
+  no_head count l e = halted law_obj now.going count l (ap (λ x. next x (λ h t. next (get_row h.kind t) (λ w u. Some (object_as h w, u)))) e)
 
   pub filling_ends : (count : ℕ) → i ≡ count → RanAll count total bs starts firsts places r done
   filling_ends count e =
-      let ran = finished get_obj put_obj WritableObj law_obj i total 0 bs [] starts r done now.going count e in
+      let ran = finished law_obj now.going count e in
       record {
         is = ran.is;
         started = ap (λ k. take k starts) {x = count} {y = 0 + count} (omega arith) ∙ ran.indexed;
@@ -101,15 +129,15 @@ module _ (i n total : ℕ) (bs starts firsts places r : List ℕ) (done : Doc) (
         indexed = ap (λ k. take k places) (sym now.counted) ∙ now.indexed;
       }
 
-  module _ (h : Head) (more : List ℕ) (e : get_head r ≡ Some (h, more)) where
+  module _ {h : Head} {more : List ℕ} (e : get_head r ≡ Some (h, more)) where
     after_head : length r ≡ 20 + length more
     after_head = ap length (law_head.forth r h more now.going.rest e).whole ∙ length-append (put_head h) more
 
-    pub row_room : 16 * n + length more ≤ total
-    row_room = let l = after_head in let k = now.entries_room in omega arith
+    pub row_room : length more ≤ length r
+    row_room = let l = after_head in omega arith
 
     pub no_row : (count : ℕ) → i < count → get_row h.kind more ≡ None → get_many get_obj count bs ≡ None
-    no_row count l f = halted get_obj put_obj WritableObj law_obj i total 0 bs [] starts r done now.going count l
+    no_row count l f = halted law_obj now.going count l
         (ap (λ x. next x (λ h t. next (get_row h.kind t) (λ w u. Some (object_as h w, u)))) e
         ∙ ap (λ x. next x (λ w u. Some (object_as h w, u))) f)
 
@@ -123,7 +151,7 @@ module _ (i n total : ℕ) (bs starts firsts places r : List ℕ) (done : Doc) (
         ∙ ap (λ x. next x (λ w u. Some (object_as h w, u))) ran.is in
         let z : 0 + i ≡ i = omega arith in
         let g' = subst (λ k. Going put_obj WritableObj (i + 1) total 0 bs [] (set starts k (total - length r)) end (done ++ o ∷ [])) z
-        (goes_on get_obj put_obj WritableObj law_obj i total 0 bs [] starts r done g o end fit (omega arith) q) in
+        (goes_on law_obj g o end fit (omega arith) q) in
         let a = after_head in
         let B = (law_head.forth r h more g.rest e).rest in
         let b : length more ≡ length (put_row ran.row) + length end = ap length ((law_row h.kind).forth more ran.row end B ran.is).whole ∙ length-append (put_row ran.row) end in

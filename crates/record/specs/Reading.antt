@@ -6,6 +6,7 @@ use Rattle.types.specs.declared.types.ObjType.{ObjType}
 use Rattle.document.specs.declared.view.Head.{Head}
 use Rattle.document.specs.Places.{nth, pairs, head_of}
 use Rattle.meaning.specs.Documents.{DocRow, Obj, Doc}
+use Rattle.record.specs.declared.cursor.Cursor.{Cursor}
 use Rattle.record_codec.specs.Codec.{Got, get_many}
 use Rattle.record_codec.specs.Layout.{Slot, get_slot, put_slot, has_keys, get_row, put_row, get_obj, put_obj}
 use Rattle.record.specs.Index.{offsets, entry_offsets, first_numbers, entry_count}
@@ -15,10 +16,16 @@ pub record Ran {A : Type 0} (get : List ℕ → Got A) (put : A → List ℕ) (c
   pub is : get_many get count bs ≡ Some (es, r)
   pub indexed : take (from + count) new ≡ take from old ++ offsets put (total - length bs) es
 
--- Entries: the bytes after them, or nothing where they do not follow the layout.
-abbrev pub IndexesEntries : Bool → ℕ → ℕ → ℕ → List ℕ → List ℕ → List ℕ → Option (Bor (List ℕ)) → Type 0
-IndexesEntries keyed count total from bs old new None = get_many (get_slot keyed) count bs ≡ None
-IndexesEntries keyed count total from bs old new (Some r) = (es : List Slot) × Ran (get_slot keyed) (put_slot keyed) count total from bs old new r.now es
+-- Entries were read from one cursor to the other.
+pub record RanEntries (keyed : Bool) (count : ℕ) (from at : Cursor) (old new : List ℕ) : Type 0 where
+  pub total : at.total ≡ from.total
+  pub next : at.entries ≡ from.entries + count
+  pub slots : List Slot
+  pub ran : Ran (get_slot keyed) (put_slot keyed) count from.total from.entries from.rest.now old new at.rest.now slots
+
+abbrev pub IndexesEntries : Bool → ℕ → Cursor → List ℕ → List ℕ → Option Cursor → Type 0
+IndexesEntries keyed count from old new None = get_many (get_slot keyed) count from.rest.now ≡ None
+IndexesEntries keyed count from old new (Some at) = RanEntries keyed count from at old new
 
 -- A row of that kind: n entries stand in the index then.
 pub record RanRow (k : ObjType) (total from : ℕ) (bs old new : List ℕ) (n : ℕ) (r : List ℕ) : Type 0 where
@@ -27,9 +34,9 @@ pub record RanRow (k : ObjType) (total from : ℕ) (bs old new : List ℕ) (n : 
   pub next : n ≡ from + length (pairs row)
   pub indexed : take n new ≡ take from old ++ offsets (put_slot (has_keys k)) (total - length bs + 4) (pairs row)
 
-abbrev pub IndexesRow : ObjType → ℕ → ℕ → List ℕ → List ℕ → List ℕ → Option (ℕ × Bor (List ℕ)) → Type 0
-IndexesRow k total from bs old new None = get_row k bs ≡ None
-IndexesRow k total from bs old new (Some p) = RanRow k total from bs old new p.0 p.1.now
+abbrev pub IndexesRow : ObjType → Cursor → List ℕ → List ℕ → Option Cursor → Type 0
+IndexesRow k from old new None = get_row k from.rest.now ≡ None
+IndexesRow k from old new (Some at) = (at.total ≡ from.total) × RanRow k from.total from.entries from.rest.now old new at.entries at.rest.now
 
 -- All objects.
 pub record RanAll (count total : ℕ) (bs starts firsts places r : List ℕ) (d : Doc) : Type 0 where

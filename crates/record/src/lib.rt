@@ -1,5 +1,7 @@
 #![tactic(auto)]
 
+mod cursor;
 mod index;
+mod places;
 pub mod record;
 mod scan;

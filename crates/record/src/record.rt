@@ -37,8 +37,7 @@ impl<'a> ShelfRecord<'a> {
         ensures answer { result ≡ opening bytes.now }
         ensures holds { elim result [ Ok _ ↦ says bytes.now ≡ Some (doc_of self.new.index.bytes.now) | Err _ ↦ self.new ≡ self.old ] }
     {
-        let mut index = RecordIndex::bare();
-        index.read(bytes)?;
+        let index = RecordIndex::read(bytes).ok_or(Refusal::InvalidLayout)?;
         if !check_rising(&index) {
             return Err(Refusal::InvalidLayout);
         }

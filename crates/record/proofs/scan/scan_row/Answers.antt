@@ -1,14 +1,15 @@
-use Rattle.std.proofs.Common.{sym, ◌∙◌, arith}
-use Rattle.record.proofs.Indexing.{typed_bytes}
-use Rattle.record.proofs.Scanning.{text_row, entries_row}
+use Rattle.std.proofs.Common.{sym, refl, ◌∙◌}
+use Rattle.record.proofs.Scanning.{text_row, text_is, keys_are, row_indexed}
 use Rattle.record.proofs.scan.scan_row.Goals as goal
 
-pub returns-then-is_text : goal.returns-then-is_text
-returns-then-is_text c =
-    text_row c.args.kind c.args.total c.args.from c.args.bytes.now c.args.places.now _ c.in-Some.rest.now
-    (sym c.is_text.ensures ∙ c.if-is_text.true) (sym c.in-Some.ensures)
+pub returns-then-eq : goal.returns-then-eq
+returns-then-eq c =
+    let t = text_is c.args.kind c.eq.result c.eq.ensures ∙ c.if-eq.true in
+    let from = c.args.from in
+    let row = text_row c.args.kind from.total from.entries from.rest.now c.args.places.now _ c.in_ok-rest.rest.now t (sym c.in_ok-rest.ensures) in
+    rw (c.over.ensures.total, c.over.ensures.rest, c.over.ensures.entries) (refl, row)
 
 pub returns : goal.returns
 returns c =
-    entries_row c.args.kind c.args.total c.args.from c.args.bytes.now c.args.places.now c.scan_entries.new.places c.has_keys-keyed.result c.in-Some-take_u32.count c.in-Some-take_u32.rest.now c.in-Some-scan_entries.end.now c.in-Some-scan_entries.ensures.0
-    (typed_bytes c.args.bytes.now c.type_inv.bytes) (omega (arith, c.requires.room)) (sym c.is_text.ensures ∙ c.if-is_text.false) c.has_keys-keyed.ensures (sym c.in-Some-take_u32.ensures) c.in-Some-scan_entries.ensures.1
+    row_indexed c.args.kind c.args.from c.over-2.result c.args.places.now c.scan_entries.new.places c.scan_entries.result (text_is c.args.kind c.eq.result c.eq.ensures ∙ c.if-eq.false) (keys_are c.args.kind c.is_sequence.result c.is_sequence.ensures)
+    c.in_ok-count.ensures c.over-2.ensures.total c.over-2.ensures.rest c.over-2.ensures.entries c.scan_entries.ensures
