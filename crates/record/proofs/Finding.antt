@@ -317,6 +317,9 @@ module _ (bs : List ℕ) (i : ℕ) (B : Bytes bs) (said : is_some (parsed bs) �
   pub size_is : (v : ℕ) (r : List ℕ) → ◌≡◌ {A = Got ℕ} (Some (v, r)) (get32 rest) → v ≡ size_of f.object.row
   size_is v r e = val_is v (size_of f.object.row) r ((row_count f.object.row).0 ++ f.more) (e ∙ size_read)
 
+  pub no_size : ◌≡◌ {A = Got ℕ} None (get32 rest) → ⊥
+  no_size e = let q = e ∙ size_read in absurd cc
+
   pub size_told_lem : (v : ℕ) (r : List ℕ) → ◌≡◌ {A = Got ℕ} (Some (v, r)) (get32 rest) → v ≡ size_told (nth (doc_of bs) i)
   size_told_lem v r e = size_is v r e ∙ ap size_told (sym f.there)
 

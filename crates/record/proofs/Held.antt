@@ -1,27 +1,28 @@
 -- The same at what an index holds.
-use Rattle.std.proofs.Common.{◌≡◌, ℕ, ◌+◌, ◌<◌, Bool, true, false, leb, List, length, get_or, drop, Some, None, sym, ap, ◌∙◌, arith}
-use mathlib.Core.Option.{Option, some}
+use Rattle.std.proofs.Common.{◌≡◌, ℕ, ◌+◌, ◌<◌, Bool, true, false, leb, List, length, get_or, drop, Some, None, Option, MatchOption, Bor, sym, ap, ◌∙◌, arith}
+use mathlib.Core.Option as maybe
 use Rattle.std.proofs.lemmas.Bool.{and_parts}
 use Rattle.document.specs.declared.view.Head.{Head}
 use Rattle.document.specs.declared.view.Entry.{Entry as Lent}
-use Rattle.document.specs.Places.{nth, entry_told}
+use Rattle.document.specs.Places.{nth, size_told, entry_told}
 use Rattle.document.specs.Views.{entry_seen}
 use Rattle.document.specs.Laws.{rises, lawful}
 use Rattle.meaning.specs.Documents.{Doc, is_text_kind}
 use Rattle.record_codec.specs.Codec.{Got, Bytes, get32}
 use Rattle.record_codec.specs.Layout.{Slot, has_keys, doc_of, get_slot}
+use Rattle.record_codec.specs.Seen.{saw, itself}
 use Rattle.record_codec.proofs.Laws.{val_is}
 use Rattle.record_codec.proofs.Records.{all_bytes}
 use Rattle.record.specs.declared.index.RecordIndex.{RecordIndex}
 use Rattle.record.specs.Reading.{Found}
-use Rattle.record.proofs.Finding.{SlotRead, slot_there, size_is, entries_are, kind_is}
+use Rattle.record.proofs.Finding.{no_size, size_told_lem, SlotRead, slot_there, size_is, entries_are, kind_is}
 
 module _ (s : RecordIndex) where
   pub bytes_are : Bytes s.bytes.now
   bytes_are = all_bytes s.bytes.now s.typed
 
   -- An entry of an object that was found, below the count that was read.
-  module _ (i n : ℕ) (h : Head) (rest : List ℕ) (f : Found (doc_of s.bytes.now) i h rest) (e : is_text_kind h.kind ≡ false) (v : ℕ) (r : List ℕ) (q : ◌≡◌ {A = Got ℕ} (Some (v, r)) (get32 rest)) (l : n < v) where
+  module _ {i : ℕ} (n : ℕ) {h : Head} {rest : List ℕ} (f : Found (doc_of s.bytes.now) i h rest) (e : is_text_kind h.kind ≡ false) {v : ℕ} {r : List ℕ} (q : ◌≡◌ {A = Got ℕ} (Some (v, r)) (get32 rest)) (l : n < v) where
     pub there : SlotRead s.bytes.now s.places.firsts s.places.entries s.objects i bytes_are s.said s.counted s.numbered s.indexed f.object n f.there
     there =
         slot_there s.bytes.now s.places.firsts s.places.entries s.objects i bytes_are s.said s.counted s.numbered s.indexed f.object n f.there
@@ -37,10 +38,16 @@ module _ (s : RecordIndex) where
     pub unread : (keyed : Bool) (x : List ℕ) → keyed ≡ has_keys h.kind → x ≡ drop at s.bytes.now → ◌≡◌ {A = Got Slot} None (get_slot keyed x) → ⊥
     unread keyed x k d g = let w = g ∙ reads keyed x k d in let z : ◌≡◌ {A = ℕ} 0 1 = cc in omega arith
 
-    pub told : (keyed : Bool) (x : List ℕ) (y : Lent) (t : List ℕ) → keyed ≡ has_keys h.kind → x ≡ drop at s.bytes.now → ◌≡◌ {A = Got Slot} (Some (entry_seen y, t)) (get_slot keyed x) → ◌≡◌ {A = Option Slot} (some (entry_seen y)) (entry_told (nth (doc_of s.bytes.now) i) n)
+    pub told : (keyed : Bool) (x : List ℕ) (y : Lent) (t : List ℕ) → keyed ≡ has_keys h.kind → x ≡ drop at s.bytes.now → ◌≡◌ {A = Got Slot} (Some (entry_seen y, t)) (get_slot keyed x) → ◌≡◌ {A = maybe.Option Slot} (maybe.some (entry_seen y)) (entry_told (nth (doc_of s.bytes.now) i) n)
     told keyed x y t k d g =
-        ap {B = Option Slot} (λ a. some a) (val_is (entry_seen y) there.slot t there.more (g ∙ reads keyed x k d))
+        ap {B = maybe.Option Slot} (λ a. maybe.some a) (val_is (entry_seen y) there.slot t there.more (g ∙ reads keyed x k d))
         ∙ (sym there.told ∙ ap (λ o. entry_told o n) (sym f.there))
+
+  -- What the size of a row is read as.
+  pub size_seen : {i : ℕ} {h : Head} {rest : List ℕ} → Found (doc_of s.bytes.now) i h rest → (size : Option (ℕ × Bor (List ℕ))) (n : ℕ) → saw itself size ≡ get32 rest → MatchOption size (n ≡ 0) (λ p. n ≡ p.0)
+      → n ≡ size_told (nth (doc_of s.bytes.now) i)
+  size_seen {i = i} {h = h} {rest = rest} f None n e g = absurd (no_size s.bytes.now i bytes_are s.said h rest f e)
+  size_seen {i = i} {h = h} {rest = rest} f (Some q) n e g = g ∙ size_told_lem s.bytes.now i bytes_are s.said h rest f q.0 q.1.now e
 
 -- Lawful rows have rising identities.
 pub lawful_rises : (d : Doc) → lawful d ≡ true → rises d ≡ true

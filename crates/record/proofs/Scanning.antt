@@ -53,6 +53,18 @@ text_is Table b e = sym e
 text_is Sequence b e = sym e
 text_is Text b e = sym e
 
+pub not_text : (k : ObjType) (b : Bool) → b ≡ not (sameb the_type k Text) → b ≡ true → is_text_kind k ≡ false
+not_text k b e t = text_is k _ refl ∙ not_true _ (sym e ∙ t)
+  where
+    not_true : (b : Bool) → not b ≡ true → b ≡ false
+    not_true b e = grind arith
+
+pub is_text : (k : ObjType) (b : Bool) → b ≡ not (sameb the_type k Text) → b ≡ false → is_text_kind k ≡ true
+is_text k b e t = text_is k _ refl ∙ not_false _ (sym e ∙ t)
+  where
+    not_false : (b : Bool) → not b ≡ false → b ≡ true
+    not_false b e = grind arith
+
 pub keys_are : (k : ObjType) (b : Bool) → b ≡ is_sequence k → not b ≡ has_keys k
 keys_are k b e = grind arith
 

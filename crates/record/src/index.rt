@@ -90,14 +90,19 @@ impl Rows for RecordIndex<'_> {
 
     // A row begins with the number of its entries or of its bytes.
     fn size(&self, i: usize) -> usize {
-        let size = self.row_at(i).and_then(|(_, row)| take_u32(row));
-        size.map_or(0, |(size, _)| size as usize)
+        let Some((_, row)) = self.row_at(i) else {
+            return 0;
+        };
+        take_u32(row).map_or(0, |(size, _)| size as usize)
     }
 
     fn entry(&self, i: usize, n: usize) -> Option<Entry<'_>> {
         let (head, row) = self.row_at(i)?;
-        let (size, _) = take_u32(row)?;
-        if head.kind == ObjType::Text || n >= size as usize {
+        if head.kind == ObjType::Text {
+            return None;
+        }
+        let (count, _) = take_u32(row)?;
+        if n >= count as usize {
             return None;
         }
         let place = self.places.entries[self.places.firsts[i] as usize + n];

@@ -6,6 +6,7 @@ use types::bounds::RECORD_BYTES;
 // An object has 24 bytes at least and an entry 16, so a record has no more of
 // them than this.
 pub const OBJECTS: usize = 2731;
+
 pub const ENTRIES: usize = 4096;
 
 // Where the objects and entries of a record begin: the objects' places, the
