@@ -1,6 +1,5 @@
 -- Codes of types, kinds and flags: each is read as what it was written for.
-use Rattle.std.proofs.Common.{◌≡◌, ℕ, ◌<◌, Bool, true, false, cond, eqb, ◌++◌, Some, None, Option, refl, ap, ◌∙◌, subst, arith}
-use Rattle.std.proofs.lemmas.Bool.{eqb-true}
+use Rattle.std.proofs.Common.{◌≡◌, ℕ, ◌<◌, Bool, cond, eqb, ◌++◌, Some, Option, refl, ap, ◌∙◌, subst, arith}
 use Rattle.types.specs.declared.types.ObjType.{ObjType}
 use Rattle.types.specs.declared.types.ObjType.TheVariants.{Map, Table, List as Sequence, Text}
 use Rattle.record_codec.specs.declared.entry_type.EntryType.{EntryType}

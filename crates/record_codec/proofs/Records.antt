@@ -1,7 +1,7 @@
 -- The laws of identities, entries, rows and objects, and of whole records.
 use Rattle.std.proofs.Common.{◌≡◌, ℕ, suc, ◌^◌, ◌<◌, ◌≤◌, Bool, true, false, cond, eqb, leb, List, [], ◌∷◌, ◌++◌, length, get_or, is_some, Some, None, Option, sym, refl, ap, ◌∙◌, subst, arith}
 use Rattle.std.proofs.lemmas.List.{append-nil, nil_from_length}
-use Rattle.std.proofs.lemmas.Bool.{le-leb, leb-true, eqb-true, cond-true, false≢true}
+use Rattle.std.proofs.lemmas.Bool.{le-leb, leb-true, eqb-true, cond-true}
 use Rattle.types.specs.declared.types.OpId.{OpId}
 use Rattle.types.specs.declared.types.ObjType.{ObjType}
 use Rattle.types.specs.declared.types.ObjType.TheVariants.{Map, Table, List as Sequence, Text}

@@ -1,4 +1,4 @@
-use Rattle.std.proofs.Common.{refl, rules, ap, ◌∙◌}
+use Rattle.std.proofs.Common.{refl, rules, ap}
 use Rattle.std.proofs.Math.ListN.{take, set}
 use Rattle.record.proofs.Finding.{each_below}
 use Rattle.record.proofs.index.RecordIndex.bare.Goals as goal

@@ -1,4 +1,4 @@
-use Rattle.std.proofs.Common.{List, length, nat_eq, ◌≡◌, sym, arith}
+use Rattle.std.proofs.Common.{length, ◌≡◌, sym, arith}
 use Rattle.meaning.specs.Documents.{Doc}
 use Rattle.record.specs.Reading.{RanAll}
 use Rattle.record.proofs.Indexing.{typed_bytes}

@@ -1,7 +1,7 @@
 use Rattle.std.proofs.Common.{get_or, arith, rules}
 use Rattle.std.proofs.lemmas.List.{take_rest}
 use Rattle.record_codec.proofs.Records.{all_bytes}
-use Rattle.record.proofs.Finding.{none_there, starts_room, head_there, found_at}
+use Rattle.record.proofs.Finding.{starts_room, head_there, found_at}
 use Rattle.record.proofs.index.RecordIndex.row_at.Goals as goal
 
 pub bounds-self-i : goal.bounds-self-i

@@ -1,4 +1,4 @@
-use Rattle.std.proofs.Common.{◌≡◌, ℕ, List, Some, None, sym, ap, ◌∙◌, arith}
+use Rattle.std.proofs.Common.{◌≡◌, ℕ, List, Some, None, sym, ap, ◌∙◌}
 use mathlib.Core.Option.{Option, some}
 use Rattle.record_codec.specs.Codec.{Got}
 use Rattle.record_codec.proofs.Laws.{val_is}
