@@ -5,7 +5,7 @@
 
 use anyhow::anyhow;
 use document::document::Document;
-use record::record::ShelfRecord;
+use record::record::{OpenRecord, ShelfRecord};
 use std::alloc::{AllocError, Global};
 use std::time::Instant;
 use std::{env, fs};

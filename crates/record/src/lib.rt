@@ -1,7 +1,7 @@
 #![tactic(auto)]
 
 mod cursor;
-mod index;
+pub mod index;
 mod places;
 pub mod record;
 mod scan;

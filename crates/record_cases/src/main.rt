@@ -3,7 +3,7 @@
 #![tactic(auto)]
 
 use document::document::Document;
-use record::record::ShelfRecord;
+use record::record::{OpenRecord, ShelfRecord};
 use std::alloc::{AllocError, Global};
 use std::io::{BufRead, BufReader};
 use types::bounds::DOCUMENT_OBJECTS;

@@ -7,7 +7,7 @@ mod lines;
 mod tree;
 
 use lines::show_lines;
-use record::record::ShelfRecord;
+use record::record::{OpenRecord, ShelfRecord};
 use std::{env, fs};
 use tree::show_document;
 
