@@ -57,22 +57,12 @@ action_row (flag_call p) n w = Conflict (prop_row p)
 action_row (splice_call i t) n w = SpliceText i n
 
 abbrev pub call_values : Call → Bool → List ValueRow
-call_values (put_call p e) w = []
 call_values (insert_call i e) w = value_row e w ∷ []
-call_values (delete_seq_call i m) w = []
-call_values (delete_map_call k) w = []
-call_values (increment_call p m d) w = []
-call_values (flag_call p) w = []
-call_values (splice_call i t) w = []
+call_values c w = []
 
 abbrev pub call_units : {U : Type 0} → Call → List U → List U
-call_units (put_call p e) us = []
-call_units (insert_call i e) us = []
-call_units (delete_seq_call i m) us = []
-call_units (delete_map_call k) us = []
-call_units (increment_call p m d) us = []
-call_units (flag_call p) us = []
 call_units (splice_call i t) us = us
+call_units c us = []
 
 -- A call's row, and what is its own.
 abbrev pub row_made : ObjId → List StepRow → List ℕ → Call → ℕ → Bool → PatchRow

@@ -34,14 +34,9 @@ steps_told [] bs = []
 steps_told (s ∷ ss) bs = record { leaves = s.leaves; prop = prop_told s.prop bs } ∷ steps_told ss (drop (prop_len s.prop) bs)
 
 abbrev pub scalar_len : ScalarOf ℕ → ℕ
-scalar_len Null = 0
-scalar_len (Boolean b) = 0
-scalar_len (Int n) = 0
-scalar_len (Uint n) = 0
-scalar_len (Timestamp n) = 0
-scalar_len (Counter n) = 0
 scalar_len (Str n) = n
 scalar_len (Bytes n) = n
+scalar_len s = 0
 
 abbrev pub scalar_told : ScalarOf ℕ → List ℕ → Scalar
 scalar_told Null bs = null
@@ -81,34 +76,16 @@ wides (v ∷ vs) = cond v.wide 1 0 + wides vs
 
 -- How many values and units an action has, how many of the values it takes for wide, and how many bytes its key and values have.
 abbrev pub values_in : ActionRow → ℕ
-values_in (PutMap n v) = 0
-values_in (PutSeq i v) = 0
 values_in (Insert i n w) = n
-values_in (SpliceText i n) = 0
-values_in (Increment p n) = 0
-values_in (Conflict p) = 0
-values_in (DeleteMap n) = 0
-values_in (DeleteSeq i n) = 0
+values_in a = 0
 
 abbrev pub units_in : ActionRow → ℕ
-units_in (PutMap n v) = 0
-units_in (PutSeq i v) = 0
-units_in (Insert i n w) = 0
 units_in (SpliceText i n) = n
-units_in (Increment p n) = 0
-units_in (Conflict p) = 0
-units_in (DeleteMap n) = 0
-units_in (DeleteSeq i n) = 0
+units_in a = 0
 
 abbrev pub wides_in : ActionRow → ℕ
-wides_in (PutMap n v) = 0
-wides_in (PutSeq i v) = 0
 wides_in (Insert i n w) = w
-wides_in (SpliceText i n) = 0
-wides_in (Increment p n) = 0
-wides_in (Conflict p) = 0
-wides_in (DeleteMap n) = 0
-wides_in (DeleteSeq i n) = 0
+wides_in a = 0
 
 abbrev pub action_len : ActionRow → List ValueRow → ℕ
 action_len (PutMap n v) vs = n + content_len v.content
