@@ -55,3 +55,6 @@ room m s v u b few h =
       units = omega (arith, m.sized.units, ltb-false 32768 _ z.0);
       bytes = omega (arith, m.sized.bytes, ltb-false 32768 _ z.1);
     }
+
+pub rows_within : {U : Type 0} (m : PatchMemory U) → length (held m.rows) ≤ 4096
+rows_within m = (within m).rows

@@ -1,22 +1,19 @@
 -- The last row, and what a change of it does to the patches held.
-use Rattle.std.proofs.Common.{◌≡◌, ℕ, ◌+◌, ◌-◌, ◌<◌, Bool, true, false, cond, not, List, [], ◌∷◌, ◌++◌, reverse, length, get_or, take, drop, Some, None, Option, sym, refl, ap, ◌∙◌, arith, length-drop, take-append-drop}
+use Rattle.std.proofs.Common.{◌≡◌, ℕ, ◌+◌, ◌-◌, ◌<◌, true, List, [], ◌∷◌, ◌++◌, reverse, length, get_or, take, drop, Some, None, Option, sym, refl, ap, ◌∙◌, arith, length-drop, take-append-drop}
 use Rattle.std.specs.List.{slice_get}
 use Rattle.std.proofs.lemmas.List.{reverse-append, length-reverse, get_or-reverse, drop_at, drop_all}
 use Rattle.std.proofs.lemmas.Option.{slice_get-get_or}
 use Rattle.std.proofs.lemmas.Bool.{and_parts}
 use Rattle.sequence_tree.specs.Sequences.{held}
 use Rattle.sequence_tree.specs.Lists.{spliced}
-use Rattle.patch.specs.declared.rows.ActionRow.{ActionRow}
-use Rattle.patch.specs.declared.rows.ActionRow.TheVariants.{PutMap, DeleteSeq}
 use Rattle.patch.specs.declared.rows.PatchRow.{PatchRow}
 use Rattle.patch.specs.declared.memory.PatchMemory.{PatchMemory}
-use Rattle.meaning.specs.Calls.{bad_length}
 use Rattle.meaning.specs.Patches.{Action}
 use Rattle.patch.specs.Told.{Parts, block, told, flags_told, fits_row, laid}
 use Rattle.patch.specs.Sound.{newest}
 use Rattle.patch.specs.Held.{parts_of}
-use Rattle.patch.specs.Edits.{change_tail, flag_put, lengthen, length_fits, of_tail}
-use Rattle.patch.specs.Tails.{TailHeld, flag_row, lengthen_row, fits_length, with_action}
+use Rattle.patch.specs.Edits.{change_tail}
+use Rattle.patch.specs.Tails.{TailHeld}
 use Rattle.patch.proofs.Walks.{nth_none, nth_some}
 
 -- the last of a list is the first of it reversed
@@ -51,63 +48,8 @@ tail_held m (Some r) h =
     let e = nth_some (newest m.rows) 0 r (last_first (held m.rows) ∙ sym h) in
     (ap (λ rs. told rs (parts_of m)) e, (and_parts (fits_row r (block r (parts_of m))) _ (sym (ap (λ rs. laid rs (parts_of m)) e) ∙ m.shared)).0)
 
-module _ {U : Type 0} (rs : List PatchRow) (c : Parts U) where
-  -- a row p in the place of r changes what its patch does, and nothing else
-  pub record Retold (p r : PatchRow) (f : Action U → Action U) : Type 0 where
-    pub laid : laid (p ∷ rs) c ≡ laid (r ∷ rs) c
-    pub told : told (p ∷ rs) c ≡ change_tail f (told (r ∷ rs) c)
-    pub flags : flags_told (p ∷ rs) c ≡ flags_told (r ∷ rs) c
-
-  -- a put's flag
-  pub flag_retold : (r : PatchRow) → Retold (with_action r (flag_row r.action)) r flag_put
-  flag_retold r = go r.action
-    where
-      go : (a : ActionRow) → Retold (with_action r (flag_row a)) (with_action r a) flag_put
-      go (PutMap n v) = record { laid = refl; told = refl; flags = refl }
-      go a = record { laid = refl; told = refl; flags = refl }
-
-  -- a deletion's length
-  pub length_retold : (m : ℕ) (r : PatchRow) → Retold (with_action r (lengthen_row m r.action)) r (lengthen m)
-  length_retold m r = go r.action
-    where
-      go : (a : ActionRow) → Retold (with_action r (lengthen_row m a)) (with_action r a) (lengthen m)
-      go (DeleteSeq i n) = record { laid = refl; told = refl; flags = refl }
-      go a = record { laid = refl; told = refl; flags = refl }
-
-  pub length_some : (m : ℕ) (r : PatchRow) (b : ActionRow) → Some b ≡ fits_length r.action m → (b ≡ lengthen_row m r.action) × (of_tail (length_fits m) (told (r ∷ rs) c) ≡ true)
-  length_some m r b h = go r.action h
-    where
-      by_length : (n : ℕ) (i : ℕ) (t : Bool) → Some b ≡ cond t None (Some (DeleteSeq i n)) → (b ≡ DeleteSeq i n) × (not t ≡ true)
-      by_length n i true q = cc
-      by_length n i false q = (cc, refl)
-
-      go : (a : ActionRow) → Some b ≡ fits_length a m → (b ≡ lengthen_row m a) × (of_tail (length_fits m) (told (with_action r a ∷ rs) c) ≡ true)
-      go (DeleteSeq i n) q = by_length (n + m) i (bad_length (n + m)) q
-      go a q = (cc, refl)
-
-  pub length_none : (m : ℕ) (r : PatchRow) → None ≡ fits_length r.action m → of_tail (length_fits m) (told (r ∷ rs) c) ≡ false
-  length_none m r h = go r.action h
-    where
-      by_length : (d : ActionRow) (t : Bool) → None ≡ cond t None (Some d) → not t ≡ false
-      by_length d true q = refl
-      by_length d false q = cc
-
-      go : (a : ActionRow) → None ≡ fits_length a m → of_tail (length_fits m) (told (with_action r a ∷ rs) c) ≡ false
-      go (DeleteSeq i n) q = by_length (DeleteSeq i (n + m)) (bad_length (n + m)) q
-      go a q = cc
-
 -- rows R become N, and their content c becomes d: the last patch is changed by f
 pub record Changed {U : Type 0} (R N : List PatchRow) (c d : Parts U) (f : Action U → Action U) : Type 0 where
   pub laid : laid N d ≡ true
   pub told : told N d ≡ change_tail f (told R c)
   pub flags : flags_told N d ≡ flags_told R c
-
--- the row r, the newest, gives way to p
-pub changed : {U : Type 0} (R N : List PatchRow) (c : Parts U) (p r : PatchRow) (f : Action U → Action U)
-    → laid R c ≡ true → R ≡ r ∷ drop 1 R → N ≡ p ∷ drop 1 R → Retold (drop 1 R) c p r f → Changed R N c c f
-changed R N c p r f l e n w =
-    record {
-      laid = ap (λ rs. laid rs c) n ∙ (w.laid ∙ (sym (ap (λ rs. laid rs c) e) ∙ l));
-      told = ap (λ rs. told rs c) n ∙ (w.told ∙ sym (ap (λ rs. change_tail f (told rs c)) e));
-      flags = ap (λ rs. flags_told rs c) n ∙ (w.flags ∙ sym (ap (λ rs. flags_told rs c) e));
-    }

@@ -61,6 +61,7 @@ impl<'m, U: Copy> PatchMemory<'m, U> {
     }
 
     // The patch at a place, and the place of the next; none past the last.
+    #[tactic(auto, using(crate::proofs::Walks::nth_none, crate::proofs::Walks::nth_some, crate::proofs::Bounds::rows_within, std::proofs::lemmas::Option::slice_get_within))]
     pub fn next(&self, at: Cursor) -> Option<(PatchView<'_, U>, Cursor)>
         ensures { Walked self.now at result }
     {

@@ -92,9 +92,7 @@ impl<'m, U: Copy> PatchMemory<'m, U> {
         let Some(row) = self.tail() else {
             return Ok(());
         };
-        let Some(action) = row.action.lengthened(m) else {
-            return Err(Refusal::DeletionLength);
-        };
+        let action = row.action.lengthened(m).ok_or(Refusal::DeletionLength)?;
         set_tail(&mut self.rows, PatchRow { action, ..row });
         Ok(())
     }

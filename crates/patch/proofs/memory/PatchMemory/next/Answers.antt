@@ -1,23 +1,9 @@
-use Rattle.std.proofs.Common.{◌+◌, ◌∷◌, drop, sym, ap, ◌∙◌, arith}
-use Rattle.std.proofs.lemmas.Option.{slice_get_within}
+use Rattle.std.proofs.Common.{◌+◌, ◌∷◌, drop, sym, ap, ◌∙◌}
 use Rattle.sequence_tree.specs.Sequences.{held}
 use Rattle.patch.specs.Told.{patch_told, told_forward}
 use Rattle.patch.specs.Walk.{parts_at}
-use Rattle.patch.proofs.Bounds.{within}
-use Rattle.patch.proofs.Walks.{nth_none, nth_some}
+use Rattle.patch.proofs.Walks.{nth_some}
 use Rattle.patch.proofs.memory.PatchMemory.next.Goals as goal
-
-pub returns-in_err-row : goal.returns-in_err-row
-returns-in_err-row g c =
-    let m = c.args.self.now in
-    let k = c.args.at in
-    rw c.from_residual.ensures (ap (λ rs. told_forward rs (parts_at m k)) (nth_none (held m.rows) k.row (sym c.get.ensures ∙ c.in_err-row.was)))
-
-pub overflow_add-next : goal.overflow_add-next
-overflow_add-next g c =
-    let m = c.args.self.now in
-    let h = slice_get_within (held m.rows) c.args.at.row c.in_ok-row.row (sym c.get.ensures ∙ c.in_ok-row.was) in
-    omega (arith, h, (within m).rows)
 
 pub returns : goal.returns
 returns g c =
