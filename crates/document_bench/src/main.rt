@@ -12,6 +12,7 @@ use std::{env, fs};
 use tables::shelf::{OpenTables, ShelfTables};
 use tables::table::{Cell, EntryRow, ObjectRow, Window};
 use types::types::{ObjId, ObjType, OpId};
+use types::value::ScalarOf;
 
 const OPENINGS: u32 = 200;
 
@@ -90,7 +91,7 @@ fn many_entries(heap: Global) -> Result<Vec<EntryRow>, AllocError> {
         };
         entries.push(EntryRow {
             key,
-            cell: Cell::Null,
+            cell: Cell::Scalar(ScalarOf::Null),
             id,
             conflict: false,
         })?;
