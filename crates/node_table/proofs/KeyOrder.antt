@@ -3,7 +3,8 @@ use Rattle.std.proofs.Common.{◌≡◌, ℕ, ◌+◌, ◌<◌, ◌≤◌, ◌�
 use Rattle.std.proofs.lemmas.List.{drop_more, drop_all}
 use Rattle.std.proofs.lemmas.Bool.{cases_lt, cases_eq}
 use Rattle.std.proofs.lemmas.Bool.Decides.{nat_tests}
-use Rattle.std.specs.Ordering.{ordering_then}
+use Rattle.std.specs.Ordering.{ordering_then, nat_cmp}
+use Rattle.std.specs.Cmp.Lexicographic.{slice_cmp}
 use Rattle.types.specs.Identities.{compare_numbers}
 use Rattle.meaning.specs.Entries.{Key, compare_keys}
 
@@ -25,33 +26,15 @@ by_first x y a b ne = ⊎_elim
 pub by_rest : (x y : ℕ) (a b : Key) → x ≡ y → compare_keys (x ∷ a) (y ∷ b) ≡ compare_keys a b
 by_rest x y a b e = ap (λ o. ordering_then o (compare_keys a b)) (numbers_same x y e)
 
--- one turn of the comparison
-module _ (a b : Key) (i : ℕ) (la : i < length a) (lb : i < length b) where
-  pub here : compare_keys (drop i a) (drop i b) ≡ compare_keys (get_or a i 0 ∷ drop (i + 1) a) (get_or b i 0 ∷ drop (i + 1) b)
-  here = let x = drop_more a i 0 la in let y = drop_more b i 0 lb in cc
+-- the library's order of lists is the order of keys
+pub numbers_are : (x y : ℕ) → nat_cmp x y ≡ compare_numbers x y
+numbers_are x y = grind (arith, nat_tests)
 
-  pub differs : (get_or a i 0 ≡ get_or b i 0 → ⊥) → compare_keys (drop i a) (drop i b) ≡ compare_numbers (get_or a i 0) (get_or b i 0)
-  differs ne = here ∙ by_first (get_or a i 0) (get_or b i 0) (drop (i + 1) a) (drop (i + 1) b) ne
-
-  pub goes_on : get_or a i 0 ≡ get_or b i 0 → compare_keys (drop (i + 1) a) (drop (i + 1) b) ≡ compare_keys (drop i a) (drop i b)
-  goes_on e = sym (here ∙ by_rest (get_or a i 0) (get_or b i 0) (drop (i + 1) a) (drop (i + 1) b) e)
-
-pub at_end : (a b : Key) (n : ℕ) → n ≤ length a → n ≤ length b → (length a ≤ n) ⊎ (length b ≤ n) → compare_keys (drop n a) (drop n b) ≡ compare_numbers (length a) (length b)
-at_end a b n la lb h = ⊎_elim
-    (λ (l : length a < length b).
-    let x : drop n a ≡ [] = drop_all n a (⊎_elim (λ z. z) (λ z. omega arith) h) in
-    let y = drop_more b n 0 (⊎_elim (λ (z : length a ≤ n). omega arith) (λ (z : length b ≤ n). omega arith) h) in
-    let w = numbers_less (length a) (length b) l in cc)
-    (λ (g : length b ≤ length a). ⊎_elim
-    (λ (e : length a ≡ length b).
-    let k : length a ≤ n = ⊎_elim (λ z. z) (λ z. omega arith) h in
-    let x : drop n a ≡ [] = drop_all n a k in
-    let y : drop n b ≡ [] = drop_all n b (omega arith) in
-    let w = numbers_same (length a) (length b) e in cc)
-    (λ (ne : length a ≡ length b → ⊥).
-    let y : drop n b ≡ [] = drop_all n b (⊎_elim (λ z. omega arith) (λ z. z) h) in
-    let x = drop_more a n 0 (⊎_elim (λ (z : length a ≤ n). omega arith) (λ (z : length b ≤ n). omega arith) h) in
-    let w = numbers_more (length a) (length b) (omega arith) in cc) (cases_eq (length a) (length b))) (cases_lt (length a) (length b))
+pub keys_are : (a b : Key) → slice_cmp nat_cmp a b ≡ compare_keys a b
+keys_are [] [] = refl
+keys_are [] (y ∷ ys) = refl
+keys_are (x ∷ xs) [] = refl
+keys_are (x ∷ xs) (y ∷ ys) = let e = numbers_are x y in let i = keys_are xs ys in cc
 
 -- laws of the order
 pub key_cases : (x y : ℕ) → (x < y) ⊎ ((x ≡ y) ⊎ (y < x))

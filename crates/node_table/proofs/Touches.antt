@@ -1,19 +1,19 @@
 -- One entry changed where it lies.
-use Rattle.std.proofs.Common.{◌≡◌, ℕ, zero, suc, ◌+◌, ◌-◌, ◌<◌, ◌≤◌, true, false, ◌⊎◌, List, ℤ, ◌+ℤ◌, [], length, get_or, sym, refl, ap, ◌∙◌, inl, ⊎_elim, arith, rules}
+use Rattle.std.proofs.Common.{◌≡◌, ℕ, zero, suc, ◌+◌, ◌-◌, ◌<◌, ◌≤◌, true, false, ◌⊎◌, List, ℤ, [], length, get_or, sym, refl, ap, ◌∙◌, inl, ⊎_elim, arith, rules}
 use Rattle.std.proofs.lemmas.List.{places}
 use Rattle.std.proofs.lemmas.Bool.{cases_eq}
 use Rattle.sequence_tree.specs.Lists.{spliced}
 use Rattle.packed_rows.specs.Rows.{row, RowSpliced}
-use Rattle.node_table.specs.Kinds.{branches, is_text}
+use Rattle.node_table.specs.Kinds.{branches, is_text, raised_content}
 use Rattle.node_chains.specs.Tree.{node, none, tree, relabel, Under}
 use Rattle.node_chains.specs.Chains.{item_at, up_at, lev_at}
 use Rattle.node_table.specs.Held.{Datum, datum, held, Changed, Touched, item_bytes, Used, Dry, respelled, Spelled, flagged, raised}
-use Rattle.node_chains.specs.declared.node.Content.TheVariants.{Counter}
+use Rattle.node_chains.specs.declared.node.Content.{Content}
 use Rattle.node_chains.specs.declared.node.Item.{Item}
 use Rattle.node_chains.specs.declared.node.Node.{Node}
 use Rattle.node_chains.proofs.Frames.{map_same, along, stays, Only}
 use Rattle.node_table.proofs.Sums.{below_change}
-use Rattle.node_table.proofs.Counters.{raises}
+use Rattle.node_table.proofs.Counters.{branches_raised, text_raised}
 use Rattle.node_chains.specs.Changes.{with_item}
 use Rattle.node_chains.proofs.Items.{item_c, item_x, links, placing_item}
 use Rattle.node_table.proofs.Inserts.{other_test, used_high, used_up, used_lev}
@@ -83,13 +83,10 @@ module _ {U : Type 0} (c : ℕ) (nodes : List Node) (it : Item) (l : c < length 
   flags = rw e (touches c nodes (record { content = (item_at nodes c).content; conflict = true; key_len = (item_at nodes c).key_len; string_len = (item_at nodes c).string_len }) l flagged refl refl refl refl (λ keys strings u. refl))
 
 -- a counter with a number added
-module _ {U : Type 0} (c : ℕ) (nodes : List Node) (it : Item) (l : c < length nodes) (e : it ≡ item_at nodes c) (x n z : ℤ) (is : it.content ≡ Counter x) (h : z ≡ x +ℤ n) where
-  pub raised_here : Touched {U = U} (raised n) c nodes (with_item nodes c (record { content = Counter z; conflict = it.conflict; key_len = it.key_len; string_len = it.string_len }))
-  raised_here =
-      let i : (item_at nodes c).content ≡ Counter x = ap (λ (y : Item). y.content) (sym e) ∙ is in
-      let r = raises (item_at nodes c).content x n z i h in
-      touches c nodes (record { content = Counter z; conflict = it.conflict; key_len = it.key_len; string_len = it.string_len }) l (raised n)
-      (ap (λ (y : Item). y.key_len) e) (ap (λ (y : Item). y.string_len) e) (sym (ap branches i)) (sym (ap is_text i)) (λ keys strings u. let f = ap (λ (y : Item). y.conflict) e in cc)
+module _ {U : Type 0} (c : ℕ) (nodes : List Node) (it : Item) (l : c < length nodes) (e : it ≡ item_at nodes c) (n : ℤ) (content : Content) (is : content ≡ raised_content n it.content) where
+  pub raised_here : Touched {U = U} (raised n) c nodes (with_item nodes c (record { content = content; conflict = it.conflict; key_len = it.key_len; string_len = it.string_len }))
+  raised_here = rw (is, e) (touches c nodes (record { content = raised_content n (item_at nodes c).content; conflict = (item_at nodes c).conflict; key_len = (item_at nodes c).key_len; string_len = (item_at nodes c).string_len }) l (raised n)
+      refl refl (branches_raised n (item_at nodes c).content) (text_raised n (item_at nodes c).content) (λ keys strings u. refl))
 
 -- the length of a list with a part replaced
 spliced_length : {X : Type 0} (xs ys : List X) (at k : ℕ) → at + k ≤ length xs → length (spliced xs at k ys) + k ≡ length xs + length ys

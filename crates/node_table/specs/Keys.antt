@@ -11,8 +11,8 @@ abbrev pub key_of : List Node → List ℕ → ℕ → Key
 key_of nodes keys x = slot 64 keys x (item_at nodes x).key_len
 
 -- The keys of a chain rise.
-abbrev pub KeysRise : (ℕ → Key) → List ℕ → Type 0
-KeysRise key chain = (p q : ℕ) → p < q → q < length chain → compare_keys (key (slice_index chain p)) (key (slice_index chain q)) ≡ Less
+pub record KeysRise (key : ℕ → Key) (chain : List ℕ) : Type 0 where
+  pub rises : (p q : ℕ) → p < q → q < length chain → compare_keys (key (slice_index chain p)) (key (slice_index chain q)) ≡ Less
 
 -- All keys before position p are below k.
 abbrev pub Above : (ℕ → Key) → List ℕ → Key → ℕ → Type 0
@@ -33,10 +33,3 @@ pub record Missing (key : ℕ → Key) (chain : List ℕ) (k : Key) (p : ℕ) : 
   pub within : p ≤ length chain
   pub above : Above key chain k p
   pub below : Below key chain k p
-
--- On the way there: k lies between two positions.
-pub record Between (key : ℕ → Key) (chain : List ℕ) (k : Key) (low high : ℕ) : Type 0 where
-  pub order : low ≤ high
-  pub within : high ≤ length chain
-  pub above : Above key chain k low
-  pub below : Below key chain k high

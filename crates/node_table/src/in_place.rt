@@ -1,8 +1,8 @@
 // Changes of one entry, which leave the chains as they are.
-ghost use Rattle.std.specs.Prelude.{◌≡◌, ◌+◌, ◌<◌, ◌≤◌, true, length, MatchResult};
+ghost use Rattle.std.specs.Prelude.{◌≡◌, ◌+◌, ◌<◌, ◌≤◌, true, length, MatchResult, Ok, Err};
 ghost use Rattle.node_chains.specs.Tree.{relabel, Under};
 ghost use Rattle.node_chains.specs.Chains.{item_at};
-ghost use Rattle.node_table.specs.Kinds.{is_text, raising};
+ghost use Rattle.node_table.specs.Kinds.{is_text, raising, raised_content};
 ghost use Rattle.node_table.specs.Held.{flagged, raised, respelled};
 ghost use Rattle.node_table.specs.Edits.{nodes_in, kids, units_at, units_used, Edited, Kept};
 
@@ -11,6 +11,19 @@ use node_chains::node::{Content, Item};
 use packed_rows::rows::splice_row;
 use types::error::Refusal;
 
+// A counter with a number added; what is no counter, or would pass 64 bits, is refused.
+fn raise(content: Content, by: i64) -> Result<Content, Refusal>
+    ensures { MatchResult result (λ x. (raising by content ≡ Ok tt) × (x ≡ raised_content by content)) (λ e. raising by content ≡ Err e) }
+{
+    let Content::Counter(x) = content else {
+        return Err(Refusal::BadIncrement);
+    };
+    let Some(sum) = x.checked_add(by) else {
+        return Err(Refusal::CounterOverflow);
+    };
+    Ok(Content::Counter(sum))
+}
+
 impl<'m, U: Copy> Tables<'m, U> {
     // The entry at c is flagged as a conflict.
     pub fn set_conflict(&mut self, c: usize)
@@ -18,12 +31,14 @@ impl<'m, U: Copy> Tables<'m, U> {
         requires below { 0 < c }
         ensures { Edited c (relabel flagged) self.old self.new }
     {
-        let item = self.chains.item(c);
-        let flagged = Item {
-            conflict: true,
-            ..item
-        };
-        self.chains.set_item(c, flagged);
+        let item = self.item(c);
+        self.chains.set_item(
+            c,
+            Item {
+                conflict: true,
+                ..item
+            },
+        );
     }
 
     // Adds to the counter at c; what is no counter, or would pass 64 bits, is refused and stays.
@@ -33,16 +48,9 @@ impl<'m, U: Copy> Tables<'m, U> {
         ensures answer { result ≡ raising by (item_at (nodes_in self.old) c).content }
         ensures effect { MatchResult result (λ _. Edited c (relabel (raised by)) self.old self.new) (λ _. Kept self.old self.new) }
     {
-        let item = self.chains.item(c);
-        let Content::Counter(x) = item.content else {
-            return Err(Refusal::BadIncrement);
-        };
-        let sum = x.checked_add(by).ok_or(Refusal::CounterOverflow)?;
-        let raised = Item {
-            content: Content::Counter(sum),
-            ..item
-        };
-        self.chains.set_item(c, raised);
+        let item = self.item(c);
+        let content = raise(item.content, by)?;
+        self.chains.set_item(c, Item { content, ..item });
         Ok(())
     }
 

@@ -34,11 +34,13 @@ impl<'m, U: Copy> Tables<'m, U> {
         self.chains.children(c)
     }
 
-    // The key of the entry at c.
+    // The key of the entry at c; past the last node, an empty one.
     pub fn key(&self, c: usize) -> &[u8]
-        requires { c < length (nodes_in self.now) }
         ensures { result.now ≡ key_in self.now c }
     {
+        if c >= self.chains.nodes.len() {
+            return &[];
+        }
         slot_of(self.keys, KEY_BYTES, c, self.item(c).key_len as usize)
     }
 
@@ -47,12 +49,8 @@ impl<'m, U: Copy> Tables<'m, U> {
         requires { c < length (nodes_in self.now) }
         ensures { result.now ≡ string_in self.now c (item_at (nodes_in self.now) c).string_len }
     {
-        slot_of(
-            self.strings,
-            SCALAR_BYTES,
-            c,
-            self.item(c).string_len as usize,
-        )
+        let n = self.item(c).string_len as usize;
+        slot_of(self.strings, SCALAR_BYTES, c, n)
     }
 
     // The units of the text at c.
