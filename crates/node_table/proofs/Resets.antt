@@ -43,6 +43,13 @@ zero_spelled f t s l z =
     let b = below_same (suc f) (λ x. 0) (λ i. length (row t s i)) (λ x m. ap length (zero_rows t s z x)) ∙ below_none (suc f) in
     omega arith
 
+-- the chains of an empty map
+pub record Laid (U : Type 0) (f : ℕ) (nodes : List Node) (t s : List ℕ) : Type 0 where
+  pub used : Used f nodes t s 0
+  pub all : row t s f ≡ s
+  pub bare : (i : ℕ) → (i ≡ f → ⊥) → row t s i ≡ []
+  pub empty : (keys strings : List ℕ) (u : ℕ → List U) → u 0 ≡ [] → held nodes t s keys strings u ≡ node empty_root none
+
 module _ (f : ℕ) (nodes : List Node) (t s : List ℕ) (ln : length nodes ≡ f + 1) (lt : length t ≡ f + 2) (ls : length s + 1 ≡ f)
     (z : (j : ℕ) → j ≤ f → get_or t j 0 ≡ 0) (e : get_or t (f + 1) 0 ≡ f - 1)
     (pl : (j : ℕ) → j < length s → get_or s j 0 ≡ j + 1)
@@ -120,3 +127,7 @@ module _ (f : ℕ) (nodes : List Node) (t s : List ℕ) (ln : length nodes ≡ f
       let a = leaf (datum nodes keys strings u) (row t s) 17 0 (row_none 0 (λ q. omega arith)) in
       let b = ap (λ (y : Node). y.item) rt in
       a ∙ ap (λ x. node x none) (cc)
+
+  -- all of it
+  pub laid_out : {U : Type 0} → Laid U f nodes t s
+  laid_out = record { used = used_reset; all = row_all; bare = row_none; empty = held_reset }

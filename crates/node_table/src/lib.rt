@@ -7,5 +7,7 @@ mod in_place;
 mod reads;
 pub mod reset;
 pub mod tables;
+#[cfg(test)]
+mod tests;
 pub mod values;
 mod weigh;
