@@ -1,7 +1,8 @@
 -- What the places hold after a part of them was replaced.
-use Rattle.std.proofs.Common.{◌≡◌, ℕ, ◌+◌, ◌-◌, ◌<◌, ◌≤◌, List, length, get_or, take, arith, length-append, length-drop, length-take, rules}
+use Rattle.std.proofs.Common.{◌≡◌, ℕ, ◌+◌, ◌-◌, ◌<◌, ◌≤◌, List, [], ◌∷◌, length, get_or, take, set, arith, length-append, length-drop, length-take, get_or-set_same, rules}
 use borrow.Rule.Slice.PartMut.{put_mid}
 use Rattle.std.proofs.lemmas.List.{places, same_lists}
+use Rattle.std.proofs.lemmas.Bool.{cases_eq}
 use Rattle.sequence_tree.specs.Lists.{spliced, Replaced}
 
 -- the first n places, read element by element, are the spliced list
@@ -19,6 +20,15 @@ pub written_is : {X : Type 0} (s s' ys xs : List X) (n at k w : ℕ) → at + k 
 written_is s s' ys xs n at k w a b e f g h p r =
     same_lists _ _ (search (rules, places))
     (λ j d l. grind (arith, places, p j d, r (j - at - length xs) d))
+
+-- a write into the one place that was made free
+pub put_is : {X : Type 0} (s s' : List X) (x : X) (n at : ℕ) → at ≤ n → n < length s → length s' ≡ length s
+    → ((j : ℕ) (d : X) → j < at → get_or s' j d ≡ get_or s j d)
+    → ((j : ℕ) (d : X) → at + 0 + j < n → get_or s' (at + 1 + j) d ≡ get_or s (at + 0 + j) d)
+    → take (n + 1) (set s' at x) ≡ spliced (take n s) at 0 (x ∷ [])
+put_is s s' x n at a b e p r =
+    same_lists _ _ (search (rules, places))
+    (λ j d l. grind (arith, places, get_or-set_same, cases_eq j at, p j d, r (j - at - 1) d))
 
 -- The length and the elements of a spliced list.
 module _ {X : Type 0} (xs ys : List X) (at k : ℕ) (h : at + k ≤ length xs) where

@@ -29,11 +29,13 @@ pub fn replace_range<T: Copy>(s: &mut [T], n: usize, at: usize, k: usize, xs: &[
 }
 
 // Puts x in at the place `at` of the first n places.
+#[tactic(auto, using(crate::proofs::Splices::put_is))]
 pub fn insert_one<T: Copy>(s: &mut [T], n: usize, at: usize, x: T)
     requires { (at ≤ n) × (n < length s.old) }
     ensures { take (n + 1) s.new ≡ spliced (take n s.old) at 0 (x ∷ []) }
 {
-    replace_range(s, n, at, 0, &[x]);
+    make_room(s, n, at, 0, 1);
+    s[at] = x;
 }
 
 // Takes the element at `at` out of the first n places.

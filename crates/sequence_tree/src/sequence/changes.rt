@@ -6,7 +6,7 @@ ghost use Rattle.sequence_tree.specs.Sequences.{held, capacity};
 
 use super::Sequence;
 use crate::error::SequenceError;
-use crate::places::{check_splice, replace_range};
+use crate::places::{check_splice, insert_one, replace_range};
 
 impl<'m, T: Copy> Sequence<'m, T> {
     // The k elements from `at` on are replaced by xs, for which there is room.
@@ -47,7 +47,8 @@ impl<'m, T: Copy> Sequence<'m, T> {
         ensures capacity { capacity self.new ≡ capacity self.old }
     {
         check_splice(self.capacity(), self.len, i, 0, 1)?;
-        self.replace(i, 0, &[x]);
+        insert_one(self.places, self.len, i, x);
+        self.len += 1;
         Ok(())
     }
 
@@ -60,7 +61,8 @@ impl<'m, T: Copy> Sequence<'m, T> {
         if self.len >= self.capacity() {
             return Err(SequenceError::Full);
         }
-        self.extend(&[x]);
+        self.places[self.len] = x;
+        self.len += 1;
         Ok(())
     }
 
