@@ -68,7 +68,8 @@ pub fn own_units<'u, U>(call: Call, units: &'u [U]) -> &'u [U]
     }
 }
 
-// The value that an insert brings comes after the last.
+// The value that an insert brings comes after the last. A function, as those above,
+// since both types are other crates'.
 pub fn add_value(values: &mut Sequence<ValueRow>, call: Call, wide: bool)
     requires { length (held values.old) + length (call_values (call_seen call) wide) ≤ capacity values.old }
     ensures held { held values.new ≡ held values.old ++ call_values (call_seen call.entry) wide }

@@ -5,7 +5,7 @@ ghost use Rattle.patch.specs.Paths.{whole_path};
 use crate::rows::{PropRow, StepRow};
 use types::bounds::KEY_BYTES;
 
-// The bytes of a key; a position has none.
+// The bytes of a key; a position has none. A function, since the type is another crate's.
 fn prop_len(p: PropRow) -> usize
     ensures { result ≡ prop_len p }
 {

@@ -14,7 +14,7 @@ use sequence_tree::sequence::Sequence;
 use types::bounds::DELETION_LENGTH;
 use types::error::Refusal;
 
-// The last row gives way to another.
+// The last row gives way to another. A function, since the sequence is another crate's type.
 #[tactic(auto, using(crate::proofs::Changes::set_newest))]
 pub fn set_tail(rows: &mut Sequence<PatchRow>, row: PatchRow)
     requires { 0 < length (held rows.old) }
@@ -76,11 +76,10 @@ impl<'m, U: Copy> PatchMemory<'m, U> {
         ensures held { held_of self.new ≡ change_tail flag_put (held_of self.old) }
         ensures wide { flags_of self.new ≡ flags_of self.old }
     {
-        let Some(row) = self.tail() else {
-            return;
-        };
-        let action = row.action.flagged();
-        set_tail(&mut self.rows, PatchRow { action, ..row });
+        if let Some(row) = self.tail() {
+            let action = row.action.flagged();
+            set_tail(&mut self.rows, PatchRow { action, ..row });
+        }
     }
 
     // The last patch takes m elements more, where it is a deletion.
