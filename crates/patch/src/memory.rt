@@ -13,7 +13,8 @@ mod take;
 
 // Patches in lent memory. Their steps, values, units and bytes lie in the
 // order of the patches, and a row says how many of each are its own, so that
-// a change of the last patch moves nothing else.
+// a change of the last patch moves nothing else. Each kind is a sequence of its
+// own, since the caller lends memory of five types.
 #[derive(Drop)]
 pub struct PatchMemory<'m, U> {
     rows: Sequence<'m, PatchRow>,
