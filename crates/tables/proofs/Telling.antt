@@ -1,15 +1,13 @@
 -- What tables tell at a place.
-use Rattle.std.proofs.Common.{◌≡◌, ℕ, zero, suc, ◌+◌, ◌<◌, ◌≤◌, Bool, true, false, ◌&&◌, Some, None, Option as Answer, List, [], ◌∷◌, length, get_or, sym, refl, ap, ◌∙◌, subst, arith, length-drop, length-take, get_or-drop, get_or-take}
+use Rattle.std.proofs.Common.{◌≡◌, ℕ, zero, suc, ◌+◌, ◌<◌, ◌≤◌, Bool, true, false, ◌&&◌, Some, None, List, [], ◌∷◌, length, get_or, sym, refl, ap, ◌∙◌, subst, arith, length-drop, length-take, get_or-drop, get_or-take}
 use mathlib.Core.Option.{none, some}
-use Rattle.std.specs.Borrow.{Bor}
-use Rattle.std.specs.Slice.{IsItemAt}
 use Rattle.std.specs.List.{list_all}
 use Rattle.std.proofs.lemmas.Bool.{and_parts, leb-true, le-leb}
 use Rattle.types.specs.Identities.{root_id}
 use Rattle.types.specs.declared.types.ObjType.{ObjType}
 use Rattle.types.specs.declared.types.ObjType.TheVariants.{Map, Table, List as Sequence, Text}
 use Rattle.meaning.specs.Entries.{Key, Entry}
-use Rattle.document.specs.Places.{nth, unkeyed, pairs, size_of, text_of?, size_told, entry_told, text_told}
+use Rattle.document.specs.Places.{nth, unkeyed, pairs, size_of, text_of?, head_told, size_told, entry_told, text_told}
 use Rattle.document.specs.Laws.{every}
 use Rattle.document.proofs.Walks.{nth_past}
 use Rattle.tables.specs.declared.table.Window.{Window}
@@ -173,12 +171,77 @@ text_entries es bs o n e = ap (λ k. nth (pairs (row_of k o.row es bs)) n) e ∙
 pub text_lies : (es : List EntryRow) (bs : List ℕ) (o : ObjectRow) → object_lies (length es) (length bs) o ≡ true → o.kind ≡ Text → lies o.row (length bs) ≡ true
 text_lies es bs o ok e = subst (λ k. lies o.row (room_of k (length es) (length bs)) ≡ true) e ok
 
--- how a size is told of what `get` gives
-pub size_got : (os : List ObjectRow) (es : List EntryRow) (bs : List ℕ) (i : ℕ) → inside os es bs ≡ true → (r : Answer (Bor ObjectRow)) → IsItemAt os i r → size_told (nth (doc_of os es bs) i) ≡ elim r [ None ↦ 0 | Some o ↦ o.now.row.len ]
-size_got os es bs i ok None h = ap size_told (docs_past os es bs i h.3)
-size_got os es bs i ok (Some o) h = ap size_told (docs_here os es bs i o.now h.3) ∙ size_at es bs o.now (object_inside os es bs ok i o.now h.3)
-
 -- the library's test of all is this one
 pub every_is : {X : Type 0} (p : X → Bool) (xs : List X) → list_all p xs ≡ every p xs
 every_is p [] = refl
 every_is p (x ∷ xs) = ap (λ b. p x && b) (every_is p xs)
+
+-- what is told of the object at a place, by what `get` says of it
+get_or_same : {X : Type 0} (xs : List X) (i : ℕ) (d e : X) → i < length xs → get_or xs i d ≡ get_or xs i e
+get_or_same [] i d e l = absurd (omega arith)
+get_or_same (x ∷ xs) zero d e l = refl
+get_or_same (x ∷ xs) (suc i) d e l = get_or_same xs i d e (omega arith)
+
+stands : {X : Type 0} (xs : List X) (i : ℕ) (x : X) → i < length xs → x ≡ get_or xs i x → Stands xs i x
+stands xs i x l e = (l, λ d. e ∙ get_or_same xs i x d l)
+
+module _ (os : List ObjectRow) (es : List EntryRow) (bs : List ℕ) (i : ℕ) where
+  pub head_past : length os ≤ i → head_told (nth (doc_of os es bs) i) ≡ None
+  head_past l = ap head_told (docs_past os es bs i l)
+
+  pub size_past : length os ≤ i → size_told (nth (doc_of os es bs) i) ≡ 0
+  size_past l = ap size_told (docs_past os es bs i l)
+
+  pub text_past : length os ≤ i → text_told (nth (doc_of os es bs) i) ≡ none
+  text_past l = ap text_told (docs_past os es bs i l)
+
+  pub entry_none : (n : ℕ) → length os ≤ i → entry_told (nth (doc_of os es bs) i) n ≡ none
+  entry_none n l = ap (λ x. entry_told x n) (docs_past os es bs i l)
+
+  module _ (o : ObjectRow) where
+    pub head_here : i < length os → o ≡ get_or os i o → Some (record { id = o.id; parent = o.parent; kind = o.kind }) ≡ head_told (nth (doc_of os es bs) i)
+    head_here l e = sym (ap head_told (docs_here os es bs i o (stands os i o l e)))
+
+    pub size_here : i < length os → o ≡ get_or os i o → inside os es bs ≡ true → size_told (nth (doc_of os es bs) i) ≡ o.row.len
+    size_here l e ok = let h = stands os i o l e in ap size_told (docs_here os es bs i o h) ∙ size_at es bs o (object_inside os es bs ok i o h)
+
+    pub text_here : i < length os → o ≡ get_or os i o → o.kind ≡ Text → text_told (nth (doc_of os es bs) i) ≡ some (part o.row bs)
+    text_here l e t = ap text_told (docs_here os es bs i o (stands os i o l e)) ∙ text_at es bs o t
+
+    pub text_other : i < length os → o ≡ get_or os i o → (o.kind ≡ Text → ⊥) → text_told (nth (doc_of os es bs) i) ≡ none
+    text_other l e t = ap text_told (docs_here os es bs i o (stands os i o l e)) ∙ other_at es bs o t
+
+    pub text_inside : i < length os → o ≡ get_or os i o → inside os es bs ≡ true → o.kind ≡ Text → lies o.row (length bs) ≡ true
+    text_inside l e ok t = text_lies es bs o (object_inside os es bs ok i o (stands os i o l e)) t
+
+    module _ (l : i < length os) (e : o ≡ get_or os i o) where
+      here : Stands os i o
+      here = stands os i o l e
+
+      pub entry_text : (n : ℕ) → o.kind ≡ Text → entry_told (nth (doc_of os es bs) i) n ≡ none
+      entry_text n t = ap (λ x. entry_told x n) (docs_here os es bs i o here) ∙ text_entries es bs o n t
+
+      module _ (ok : inside os es bs ≡ true) (other : o.kind ≡ Text → ⊥) where
+        pub row_inside : lies o.row (length es) ≡ true
+        row_inside = row_lies es bs o (object_inside os es bs ok i o here) other
+
+        module _ (xs : List EntryRow) (n : ℕ) (shown : xs ≡ part o.row es) where
+          pub entry_past_row : length xs ≤ n → entry_told (nth (doc_of os es bs) i) n ≡ none
+          entry_past_row p =
+              ap (λ x. entry_told x n) (docs_here os es bs i o here)
+              ∙ entry_past es bs o (object_inside os es bs ok i o here) other n (subst (λ ys. length ys ≤ n) shown p)
+
+          module _ (r : EntryRow) (m : n < length xs) (is : r ≡ get_or xs n r) where
+            entry_stands : Stands (part o.row es) n r
+            entry_stands = subst (λ ys. Stands ys n r) shown (stands xs n r m is)
+
+            pub entry_here : entry_told (nth (doc_of os es bs) i) n ≡ some (seen_of o.kind bs r)
+            entry_here =
+                ap (λ x. entry_told x n) (docs_here os es bs i o here)
+                ∙ entry_at es bs o (object_inside os es bs ok i o here) other n r entry_stands
+
+            pub entry_lies_here : entry_lies (length bs) r ≡ true
+            entry_lies_here = entry_inside os es bs ok o.row n r (row_fits es bs o (object_inside os es bs ok i o here) other) entry_stands
+
+-- what the proofs of the rows' answers need
+pub ruleset told_here = (docs_length, head_here, head_past, size_here, size_past, text_here, text_other, text_past, text_inside, entry_none, entry_text, row_inside, entry_past_row, entry_here, entry_lies_here)

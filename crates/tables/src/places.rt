@@ -49,6 +49,7 @@ impl From<ObjectRow> for Head {
     }
 }
 
+#[tactic(auto, using(crate::proofs::Telling::told_here))]
 impl Rows for TableRows<'_> {
     ghost shaped = { λ t. told t.objects.now t.entries.now t.bytes.now };
 
