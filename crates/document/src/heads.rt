@@ -3,7 +3,6 @@ ghost use Rattle.document.specs.Laws.{every, earlier, rises, rooted, child_ok};
 ghost use Rattle.document.specs.Places.{nth};
 ghost use Rattle.document.specs.Steps.{passes, ordered};
 
-use crate::order::{before, same, same_kind};
 use crate::rising::Rising;
 use crate::rows::Rows;
 use types::types::{ObjId, ObjType};
@@ -13,7 +12,7 @@ fn in_order<R: Rows>(rows: &R, i: usize, j: usize) -> bool
     ensures { result ≡ ordered earlier (nth (R.shaped rows.now).doc i) (nth (R.shaped rows.now).doc j) }
 {
     match (rows.head(i), rows.head(j)) {
-        (Some(a), Some(b)) => before(a.id, b.id),
+        (Some(a), Some(b)) => a.id < b.id,
         _ => true,
     }
 }
@@ -30,8 +29,8 @@ impl<R: Rows> Rising<'_, R> {
     pub fn check_root(&self) -> bool
         ensures { result ≡ rooted (R.shaped self.now.rows.now).doc }
     {
-        self.object(ObjId::root()).is_some_and(|h| same_kind(h.kind, ObjType::Map)
-            && same(h.parent, ObjId::root()))
+        self.object(ObjId::root())
+            .is_some_and(|h| h.kind == ObjType::Map && h.parent == ObjId::root())
     }
 
     // Whether the object at a place is the root, or has a counter above 0 and
@@ -42,8 +41,8 @@ impl<R: Rows> Rising<'_, R> {
         let Some(h) = self.rows.head(i) else {
             return true;
         };
-        same(h.id, ObjId::root())
-            || h.id.0.counter > 0 && before(h.parent, h.id) && self.object(h.parent).is_some()
+        h.id == ObjId::root()
+            || h.id.0.counter > 0 && h.parent < h.id && self.object(h.parent).is_some()
     }
 
     // Whether every object but the root has its parent.

@@ -6,7 +6,6 @@ mod counts;
 pub mod document;
 mod heads;
 mod names;
-mod order;
 mod path;
 pub mod rising;
 mod room;

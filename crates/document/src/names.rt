@@ -5,7 +5,6 @@ ghost use Rattle.document.specs.Marks.{Marked, Later, ClearAt, LaterAt, Names, E
 ghost use Rattle.document.specs.Places.{nth, entry_told};
 ghost use Rattle.document.specs.Steps.{passes, pairs_told};
 
-use crate::order::{same, same_kind};
 use crate::rising::Rising;
 use crate::rows::Rows;
 use types::bounds::DOCUMENT_OBJECTS;
@@ -28,12 +27,12 @@ impl<R: Rows> Naming<'_, R> {
     fn place(&self, owner: ObjId, id: ObjId, kind: ObjType) -> Option<usize>
         ensures { Names (R.shaped self.now.rows.rows.now).doc (rank owner) (record { kind = kind; object = id }) result }
     {
-        if same(id, ObjId::root()) {
+        if id == ObjId::root() {
             return None;
         }
         let j = self.rows.find(id)?;
         let head = self.rows.rows.head(j)?;
-        if same_kind(head.kind, kind) && same(head.parent, owner) {
+        if head.kind == kind && head.parent == owner {
             Some(j)
         } else {
             None

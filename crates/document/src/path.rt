@@ -5,7 +5,6 @@ ghost use Rattle.document.specs.Paths.{names_it, Sought, Linked, Climbed, Answer
 ghost use Rattle.document.specs.Views.{entry_seen};
 
 use crate::document::Document;
-use crate::order::same;
 use crate::step::{PathError, PathStep};
 use crate::view::Entry;
 use types::bounds::PATH_STEPS;
@@ -17,7 +16,7 @@ fn names(e: Entry, id: ObjId) -> bool
     ensures { result ≡ names_it (rank id) (entry_seen e.entry) }
 {
     match e.value {
-        Value::Object(_) => same(id, ObjId(e.id)),
+        Value::Object(_) => id == ObjId(e.id),
         Value::Scalar(_) => false,
     }
 }
@@ -55,7 +54,7 @@ fn link<D: Document>(doc: &D, id: ObjId) -> Option<PathStep>
 fn climb<D: Document>(doc: &D, id: ObjId, steps: &mut [PathStep]) -> Option<usize>
     ensures { Climbed (D.rows doc.now).doc (path_of (D.rows doc.now).doc id) steps.old steps.new result }
 {
-    if same(id, ObjId::root()) {
+    if id == ObjId::root() {
         return Some(0);
     }
     let step = link(doc, id)?;

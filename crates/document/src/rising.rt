@@ -7,10 +7,10 @@ ghost use Rattle.document.specs.Steps.{Found};
 ghost use Rattle.document.specs.Views.{an_entry_seen, bytes_seen};
 
 use crate::heads::check_rising;
-use crate::order::before;
 use crate::rows::Rows;
 use crate::view::{Entry, Head};
 use std::alloc::AllocError;
+use std::cmp::Ordering;
 use types::types::ObjId;
 
 // Rows whose identities rise, so that objects are found by halves.
@@ -59,12 +59,10 @@ impl<'a, R: Rows> Rising<'a, R> {
         while lo < hi {
             let mid = lo + (hi - lo) / 2;
             let head = self.rows.head(mid)?;
-            if before(head.id, id) {
-                lo = mid + 1;
-            } else if before(id, head.id) {
-                hi = mid;
-            } else {
-                return Some(mid);
+            match head.id.cmp(&id) {
+                Ordering::Less => lo = mid + 1,
+                Ordering::Equal => return Some(mid),
+                Ordering::Greater => hi = mid,
             }
         }
         None
