@@ -23,12 +23,6 @@ fn is_text(value: Value) -> bool
     }
 }
 
-pub fn byte_len(value: Value) -> usize
-    ensures { result ≡ content_bytes (content_seen value.entry) }
-{
-    value.byte_len()
-}
-
 // Whether a key and its entry are good by themselves.
 fn is_good(e: Entry) -> bool
     ensures { result ≡ good_pair (entry_seen e.entry) }
@@ -36,21 +30,8 @@ fn is_good(e: Entry) -> bool
     e.key.len() <= KEY_BYTES
         && is_utf8(e.key)
         && e.id.counter > 0
-        && byte_len(e.value) <= SCALAR_BYTES
+        && e.value.byte_len() <= SCALAR_BYTES
         && is_text(e.value)
-}
-
-fn is_good_at<R: Rows>(rows: &R, i: usize, n: usize) -> bool
-    ensures { result ≡ passes good_pair (entry_told (nth (R.shaped rows.now).doc i) n) }
-{
-    rows.entry(i, n).is_none_or(is_good)
-}
-
-// Whether a row's keys and entries are good by themselves.
-fn check_entries<R: Rows>(rows: &R, i: usize) -> bool
-    ensures { result ≡ every good_pair (pairs_told (nth (R.shaped rows.now).doc i)) }
-{
-    (0..rows.size(i)).all(|n| is_good_at(rows, i, n))
 }
 
 // Keys compare by bytes.
@@ -60,37 +41,61 @@ fn key_before(a: &[u8], b: &[u8]) -> bool
     a < b
 }
 
-fn keys_in_order<R: Rows>(rows: &R, i: usize, n: usize, m: usize) -> bool
-    ensures { result ≡ ordered key_before (entry_told (nth (R.shaped rows.now).doc i) n) (entry_told (nth (R.shaped rows.now).doc i) m) }
-{
-    match (rows.entry(i, n), rows.entry(i, m)) {
-        (Some(a), Some(b)) => key_before(a.key, b.key),
-        _ => true,
+// The row of the object at a place.
+#[derive(Drop)]
+pub struct Row<'a, R: Rows> {
+    pub rows: &'a R,
+    pub i: usize,
+}
+
+impl<R: Rows> Row<'_, R> {
+    fn is_good_at(&self, n: usize) -> bool
+        ensures { result ≡ passes good_pair (entry_told (nth (R.shaped self.now.rows.now).doc self.now.i) n) }
+    {
+        self.rows.entry(self.i, n).is_none_or(is_good)
     }
-}
 
-// Whether each key of a row comes before the next.
-fn check_chain<R: Rows>(rows: &R, i: usize) -> bool
-    ensures { result ≡ chained key_before (pairs_told (nth (R.shaped rows.now).doc i)) }
-{
-    (0..rows.size(i)).all(|n| keys_in_order(rows, i, n, n + 1))
-}
+    // Whether a row's keys and entries are good by themselves.
+    fn check_entries(&self) -> bool
+        ensures { result ≡ every good_pair (pairs_told (nth (R.shaped self.now.rows.now).doc self.now.i)) }
+    {
+        (0..self.rows.size(self.i)).all(|n| self.is_good_at(n))
+    }
 
-// Whether a map's or table's keys rise.
-fn check_keys<R: Rows>(rows: &R, i: usize) -> bool
-    ensures { result ≡ keys_told (nth (R.shaped rows.now).doc i) }
-{
-    rows.head(i)
-        .is_none_or(|h| h.kind.is_sequence() || check_chain(rows, i))
-}
+    fn keys_in_order(&self, n: usize, m: usize) -> bool
+        ensures { result ≡ ordered key_before (entry_told (nth (R.shaped self.now.rows.now).doc self.now.i) n) (entry_told (nth (R.shaped self.now.rows.now).doc self.now.i) m) }
+    {
+        match (self.rows.entry(self.i, n), self.rows.entry(self.i, m)) {
+            (Some(a), Some(b)) => key_before(a.key, b.key),
+            _ => true,
+        }
+    }
 
-// Whether a row is lawful by itself.
-fn check_row<R: Rows>(rows: &R, i: usize) -> bool
-    ensures { result ≡ passes row_ok (nth (R.shaped rows.now).doc i) }
-{
-    match rows.text(i) {
-        Some(t) => is_utf8(t),
-        None => check_keys(rows, i) && check_entries(rows, i),
+    // Whether each key of a row comes before the next.
+    fn check_chain(&self) -> bool
+        ensures { result ≡ chained key_before (pairs_told (nth (R.shaped self.now.rows.now).doc self.now.i)) }
+    {
+        (0..self.rows.size(self.i)).all(|n| self.keys_in_order(n, n + 1))
+    }
+
+    // Whether a map's or table's keys rise.
+    fn check_keys(&self) -> bool
+        ensures { result ≡ keys_told (nth (R.shaped self.now.rows.now).doc self.now.i) }
+    {
+        let Some(head) = self.rows.head(self.i) else {
+            return true;
+        };
+        head.kind.is_sequence() || self.check_chain()
+    }
+
+    // Whether a row is lawful by itself.
+    pub fn check(&self) -> bool
+        ensures { result ≡ passes row_ok (nth (R.shaped self.now.rows.now).doc self.now.i) }
+    {
+        match self.rows.text(self.i) {
+            Some(t) => is_utf8(t),
+            None => self.check_keys() && self.check_entries(),
+        }
     }
 }
 
@@ -98,5 +103,5 @@ fn check_row<R: Rows>(rows: &R, i: usize) -> bool
 pub fn check_each_row<R: Rows>(rows: &R) -> bool
     ensures { result ≡ every row_ok (R.shaped rows.now).doc }
 {
-    (0..rows.count()).all(|i| check_row(rows, i))
+    (0..rows.count()).all(|i| Row { rows, i }.check())
 }
