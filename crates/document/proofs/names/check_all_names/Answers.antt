@@ -11,9 +11,9 @@ loop-i-init g c = (refl, none_marked (g.R.Rows.shaped c.args.rows.rows.now).doc 
 pub loop-i-preserved : goal.loop-i-preserved
 loop-i-preserved g c =
     let d = (g.R.Rows.shaped c.args.rows.rows.now).doc in (
-      omega (arith, c.check_at.auto.marks, c.loop-i.invariant.0),
-      next_clear d c.loop-i.i c.check_at.new.marks c.args.rows.up (c.check_at.ensures.later c.if-not-check_at.false),
-      every_on (refs_ok d) d c.loop-i.i c.loop-i.invariant.2 c.check_at.result c.check_at.ensures.test c.if-not-check_at.false,
+      omega (arith, c.check_names_at.auto.marks, c.loop-i.invariant.0),
+      next_clear d c.loop-i.i c.check_names_at.new.marks c.args.rows.up (c.check_names_at.ensures.later c.if-not-check_names_at.false),
+      every_on (refs_ok d) d c.loop-i.i c.loop-i.invariant.2 c.check_names_at.result c.check_names_at.ensures.test c.if-not-check_names_at.false,
     )
 
 pub returns : goal.returns
