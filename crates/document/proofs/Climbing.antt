@@ -114,11 +114,6 @@ module _ (d : Doc) (law : Lawful d) where
   untold none e = refl
   untold (some c) e = let q : ◌≡◌ {A = Answer Head} None (Some (head_of c)) = e in let z : ◌≡◌ {A = ℕ} 0 1 = cc in absurd (omega arith)
 
-  pub no_child : (o : ObjId) → 0 < rank o → None ≡ head_told (find d (rank o)) → path_of d o ≡ none
-  no_child o h e =
-      path_rest (rank o) (rank o) h (omega arith)
-      ∙ ap (λ x. on_some x (λ (c : Obj). on_some (find d (rank c.parent)) (λ q. on_some (seek (rank o) (items q)) (λ s. map (after q.ident s) (climb d (rank o) (rank c.parent)))))) (untold (find d (rank o)) e)
-
   module _ (o : ObjId) (above : 0 < rank o) (h : Head) (is : Some h ≡ head_told (find d (rank o))) where
     child : (c : Obj) × (find d (rank o) ≡ some c) × (h ≡ head_of c)
     child = told (find d (rank o)) h is
@@ -128,9 +123,6 @@ module _ (d : Doc) (law : Lawful d) where
 
     earlier : rank h.parent < rank o
     earlier = subst (λ (h : Head). rank h.parent < rank o) (sym child.2) (parent_earlier d law (rank o) child.0 child.1 above)
-
-    pub no_parent : None ≡ head_told (find d (rank h.parent)) → path_of d o ≡ none
-    no_parent e = by_head ∙ ap (λ x. on_some x (λ (q : Obj). on_some (seek (rank o) (items q)) (λ s. map (after q.ident s) (climb d (rank h.parent) (rank h.parent))))) (untold (find d (rank h.parent)) e)
 
     module _ (q : Head) (up : Some q ≡ head_told (find d (rank h.parent))) where
       parent : (p : Obj) × (find d (rank h.parent) ≡ some p) × (q ≡ head_of p)
@@ -160,9 +152,6 @@ module _ (d : Doc) (law : Lawful d) where
   pub path_length : (o : ObjId) (p : List Step) → path_of d o ≡ some p → length p ≤ rank o
   path_length o p e = climb_length (rank o) (rank o) p e
 
-  pub path_root : (o : ObjId) → rank o ≡ 0 → path_of d o ≡ some []
-  path_root o e = climb_root (rank o) (rank o) e
-
 -- writing one more step
 seen_length : (d : Doc) (ss : List PathStep) → length (steps_seen d ss) ≡ length ss
 seen_length d [] = refl
@@ -172,13 +161,6 @@ seen_set : (d : Doc) (ss : List PathStep) (k : ℕ) (s : PathStep) → steps_see
 seen_set d [] k s = refl
 seen_set d (x ∷ ss) zero s = refl
 seen_set d (x ∷ ss) (suc k) s = ap (λ t. step_seen d x ∷ t) (seen_set d ss k s)
-
-pub none_written : (d : Doc) (steps : List PathStep) → Written d [] steps steps
-none_written d steps = record { here = sym (take_none (length steps)); behind = refl }
-  where
-    take_none : (n : ℕ) → take {A = Step} n [] ≡ []
-    take_none zero = refl
-    take_none (suc n) = refl
 
 behind_more : (old new : List PathStep) (k : ℕ) → drop k new ≡ drop k old → drop (k + 1) new ≡ drop (k + 1) old
 behind_more old new k e = drop_next new k ∙ (ap (drop 1) e ∙ sym (drop_next old k))

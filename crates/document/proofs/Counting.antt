@@ -1,11 +1,11 @@
 -- Counts taken out of room, row by row and entry by entry.
-use Rattle.std.proofs.Common.{◌≡◌, ℕ, ◌+◌, ◌-◌, ◌<◌, ◌≤◌, true, false, leb, List, [], ◌∷◌, length, drop, Some, None, Option as Answer, sym, refl, ap, ◌∙◌, subst, inl, inr, arith}
+use Rattle.std.proofs.Common.{◌≡◌, ℕ, ◌+◌, ◌-◌, ◌<◌, ◌≤◌, false, leb, List, [], ◌∷◌, length, drop, Some, None, Option as Answer, sym, refl, ap, ◌∙◌, subst, inl, inr, arith}
 use mathlib.Core.Option.{Option, none, some}
 use Rattle.std.proofs.lemmas.List.{drop_all}
 use Rattle.std.proofs.lemmas.Bool.{and_parts, and_from, leb-true, le-leb, lt-leb, cond-true, cond-false, cases_Bool, cases_lt}
 use Rattle.meaning.specs.Entries.{Key, Entry}
 use Rattle.meaning.specs.Rows.{map_of, list_of, text_of}
-use Rattle.meaning.specs.Values.{Counts, plus, within_value}
+use Rattle.meaning.specs.Values.{Counts, plus}
 use Rattle.meaning.specs.Documents.{DocRow, Obj, Doc, pairs_counts, list_counts, row_counts, doc_counts}
 use Rattle.document.specs.declared.room.Room.{Room}
 use Rattle.document.specs.Places.{first, nth, unkeyed, pairs, size_of, text_of?, size_told, text_told}
@@ -120,20 +120,3 @@ module _ (d : Doc) (i : ℕ) (room : Room) (so : Going room (doc_counts (drop i 
         (omega (arith, going.0), omega (arith, going.1), omega (arith, going.2))
     | inr h ↦ let q : ◌≡◌ {A = Answer Room} (Some next) None = e ∙ cond-false (suffices k room) _ None h in let z : ◌≡◌ {A = ℕ} 0 1 = cc in absurd (omega arith)
   ]
-
-  pub counts_off : None ≡ taken_up room k → false ≡ within_value (doc_counts d)
-  counts_off e = elim (cases_Bool (within_value (doc_counts d))) [
-    | inl h ↦
-        let a = and_parts (leb (doc_counts d).entry_count 4096) _ h in
-        let b = and_parts (leb (doc_counts d).unit_count 32768) (leb (doc_counts d).byte_count 32768) a.1 in
-        let u = leb-true _ _ a.0 in let v = leb-true _ _ b.0 in let w = leb-true _ _ b.1 in
-        let s = and_from (leb k.entry_count room.entries) _ (le-leb _ _ (omega (arith, going.0))) (and_from (leb k.unit_count room.units) (leb k.byte_count room.bytes) (le-leb _ _ (omega (arith, going.1))) (le-leb _ _ (omega (arith, going.2)))) in
-        let q : ◌≡◌ {A = Answer Room} None (Some (record { entries = room.entries - k.entry_count; units = room.units - k.unit_count; bytes = room.bytes - k.byte_count })) = e ∙ cond-true (suffices k room) _ None s in
-        let z : ◌≡◌ {A = ℕ} 0 1 = cc in absurd (omega arith)
-    | inr h ↦ sym h
-  ]
-
-  pub counts_all : length d ≤ i → true ≡ within_value (doc_counts d)
-  counts_all h =
-      let e = subst (λ r. Going room (doc_counts r) (doc_counts d)) (drop_all i d h) so in
-      sym (and_from (leb (doc_counts d).entry_count 4096) _ (le-leb _ _ (omega (arith, e.0))) (and_from (leb (doc_counts d).unit_count 32768) (leb (doc_counts d).byte_count 32768) (le-leb _ _ (omega (arith, e.1))) (le-leb _ _ (omega (arith, e.2)))))

@@ -5,18 +5,13 @@ use Rattle.std.proofs.lemmas.List.{get_or-set_same, get_or-set_other, drop_all}
 use Rattle.std.proofs.lemmas.Bool.{and_parts, and_right, cond-true, cond-false, cases_Bool, cases_order, cases_lt, eqb-true, eq-eqb, ne_eqb}
 use Rattle.meaning.specs.Lists.{memb}
 use Rattle.meaning.specs.Entries.{Key, Entry, Ref, ref_rank}
-use Rattle.types.specs.declared.types.ObjType.TheVariants.{Text}
-use Rattle.meaning.specs.Rows.{map_of, list_of, text_of}
-use Rattle.meaning.specs.Documents.{DocRow, Obj, Doc, name, find, FitsKind}
-use Rattle.document.specs.declared.view.Head.{Head}
-use Rattle.document.specs.Places.{first, nth, pairs, head_told, ShapedObj}
-use Rattle.document.specs.Steps.{passes}
-use Rattle.document.specs.Laws.{same_kind, rises, refs_of, belongs, ref_ok, named, refs_ok}
+use Rattle.meaning.specs.Documents.{Obj, Doc, name, find}
+use Rattle.document.specs.Places.{first, nth}
+use Rattle.document.specs.Laws.{same_kind, rises, refs_of, belongs, ref_ok, named}
 use Rattle.document.specs.Marks.{under, name_at, Marked, Later, ClearAt, LaterAt, Names, Enters, refs_at}
 use Rattle.document.specs.Nothing.{no_obj}
 use Rattle.document.proofs.Walks.{nth_is, nth_past, drop_next}
 use Rattle.document.proofs.Search.{rising}
-use Rattle.document.proofs.Pairs.{At, head_some, head_none}
 
 pub find_name : (d : Doc) (x : ℕ) (o : Obj) → find d x ≡ some o → name o ≡ x
 find_name [] x o e = let z : ◌≡◌ {A = ℕ} 0 1 = cc in absurd (omega arith)
@@ -83,9 +78,6 @@ pub record Going (d : Doc) (owner : ℕ) (ps : List (Key × Entry)) (n : ℕ) (m
   pub marked : Marked d owner marks seen
   pub rest : named d owner [] (refs_of ps) ≡ named d owner seen (refs_of (drop n ps))
 
-pub begins : (d : Doc) (owner : ℕ) (ps : List (Key × Entry)) (marks : List Bool) → Marked d owner marks [] → Going d owner ps 0 marks
-begins d owner ps marks h = record { seen = []; marked = h; rest = refl }
-
 module _ (d : Doc) (owner : ℕ) (ps : List (Key × Entry)) (n : ℕ) (marks : List Bool) (so : Going d owner ps n marks) where
   here : named d owner [] (refs_of ps) ≡ named d owner so.seen (refs_at (nth ps n) ++ refs_of (drop (n + 1) ps))
   here = so.rest ∙ ap (named d owner so.seen) (refs_step ps n)
@@ -116,20 +108,6 @@ next_clear d i marks up h = elim (cases_lt (i + 1) (length d)) [
 
 pub enters_none : (d : Doc) (owner : ℕ) (marks : List Bool) (seen : List ℕ) → Marked d owner marks seen → Enters d owner seen [] marks true
 enters_none d owner marks seen so = (seen, so, λ rest. refl)
-
--- a text names nothing
-pub text_names : (d : Doc) (x : Option Obj) (h : Head) → At ShapedObj x → Some h ≡ head_told x → h.kind ≡ Text → passes (refs_ok d) x ≡ true
-text_names d none h f e k = absurd (head_none h e)
-text_names d (some o) h f e k = go o.row (subst (λ q. FitsKind q o.row) (ap (λ (q : Head). q.kind) (sym (head_some o h e)) ∙ k) f)
-  where
-    go : (w : DocRow) → FitsKind Text w → named d (name o) [] (refs_of (pairs w)) ≡ true
-    go (map_of m) f = absurd f
-    go (list_of l) f = absurd f
-    go (text_of t) f = refl
-
-pub clear_later : (d : Doc) (x : Option Obj) (marks : List Bool) → ClearAt d x marks → LaterAt d x marks
-clear_later d none marks h = tt
-clear_later d (some o) marks h = λ j l u. h j l (omega arith)
 
 -- nothing is marked at first
 pub none_marked : (d : Doc) (x : Option Obj) (marks : List Bool) → ((j : ℕ) → get_or marks j false ≡ false) → ClearAt d x marks

@@ -1,19 +1,13 @@
 -- Entries of the object at a place, and how its kind tells the shape of its row.
-use Rattle.std.proofs.Common.{◌≡◌, ℕ, zero, suc, ◌≤◌, Bool, true, false, ◌&&◌, ◌||◌, List, [], ◌∷◌, length, drop, Some, None, Option as Answer, sym, refl, ap, ◌∙◌, arith}
+use Rattle.std.proofs.Common.{◌≡◌, ℕ, zero, suc, ◌≤◌, List, [], ◌∷◌, length, drop, Some, None, Option as Answer, sym, refl, ap, arith}
 use mathlib.Core.Option.{Option, none, some}
-use Rattle.types.specs.Kinds.{is_sequence}
-use Rattle.types.specs.declared.types.ObjType.{ObjType}
-use Rattle.types.specs.declared.types.ObjType.TheVariants.{Map, Table, List as Sequence, Text}
-use Rattle.text_value.specs.Rfc3629.{utf8}
 use Rattle.meaning.specs.Entries.{Entry}
 use Rattle.meaning.specs.Rows.{map_of, list_of, text_of}
 use Rattle.meaning.specs.Lists.{Every}
-use Rattle.meaning.specs.Documents.{DocRow, Obj, FitsKind}
+use Rattle.meaning.specs.Documents.{DocRow, Obj}
 use Rattle.document.specs.declared.view.Head.{Head}
-use Rattle.document.specs.Places.{first, nth, unkeyed, pairs, size_of, text_of?, head_of, head_told, size_told, entry_told, text_told, ShapedObj}
-use Rattle.document.specs.Laws.{every, chained, key_before, keys_ok, good_pair, good_text, shape_ok, row_ok}
-use Rattle.document.specs.Judged.{shape_decides}
-use Rattle.document.specs.Steps.{passes, pairs_told, keys_told}
+use Rattle.document.specs.Places.{first, nth, unkeyed, pairs, size_of, head_of, head_told, size_told, entry_told}
+use Rattle.document.specs.Steps.{pairs_told}
 
 drop_none : {X : Type 0} (n : ℕ) → drop {A = X} n [] ≡ []
 drop_none zero = refl
@@ -52,44 +46,3 @@ head_some o h e = let q : ◌≡◌ {A = Answer Head} (Some h) (Some (head_of o)
 
 pub head_none : (h : Head) → Some h ≡ head_told none → ⊥
 head_none h e = let q : ◌≡◌ {A = Answer Head} (Some h) None = e in let z : ◌≡◌ {A = ℕ} 0 1 = cc in omega arith
-
-kind_keys : (k : ObjType) (w : DocRow) → FitsKind k w → keys_ok w ≡ (is_sequence k || chained key_before (pairs w))
-kind_keys Map (map_of m) f = refl
-kind_keys Map (list_of l) f = absurd f
-kind_keys Map (text_of t) f = absurd f
-kind_keys Table (map_of m) f = refl
-kind_keys Table (list_of l) f = absurd f
-kind_keys Table (text_of t) f = absurd f
-kind_keys Sequence (map_of m) f = absurd f
-kind_keys Sequence (list_of l) f = refl
-kind_keys Sequence (text_of t) f = absurd f
-kind_keys Text (map_of m) f = absurd f
-kind_keys Text (list_of l) f = absurd f
-kind_keys Text (text_of t) f = refl
-
-pub keys_told_lem : (x : Option Obj) (h : Head) → At ShapedObj x → Some h ≡ head_told x → keys_told x ≡ (is_sequence h.kind || chained key_before (pairs_told x))
-keys_told_lem none h f e = absurd (head_none h e)
-keys_told_lem (some o) h f e =
-    kind_keys o.kind o.row f ∙ ap (λ (q : Head). is_sequence q.kind || chained key_before (pairs o.row)) (sym (head_some o h e))
-
-and_true : (b : Bool) → (b && true) ≡ b
-and_true true = refl
-and_true false = refl
-
-text_row : (k : ObjType) (w : DocRow) (t : List ℕ) → FitsKind k w → some t ≡ text_of? w → (shape_ok k w && (keys_ok w && (every good_pair (pairs w) && good_text (text_of? w)))) ≡ utf8 t
-text_row k (map_of m) t f e = let z : ◌≡◌ {A = ℕ} 0 1 = cc in absurd (omega arith)
-text_row k (list_of l) t f e = let z : ◌≡◌ {A = ℕ} 0 1 = cc in absurd (omega arith)
-text_row k (text_of u) t f e = let s : u ≡ t = cc in ap (λ b. b && utf8 u) ((shape_decides k (text_of u)).1 f) ∙ ap utf8 s
-
-pub row_text : (x : Option Obj) (t : List ℕ) → At ShapedObj x → some t ≡ text_told x → utf8 t ≡ passes row_ok x
-row_text none t f e = let z : ◌≡◌ {A = ℕ} 0 1 = cc in absurd (omega arith)
-row_text (some o) t f e = sym (text_row o.kind o.row t f e)
-
-other_row : (k : ObjType) (w : DocRow) → FitsKind k w → none ≡ text_of? w → (shape_ok k w && (keys_ok w && (every good_pair (pairs w) && good_text (text_of? w)))) ≡ (keys_ok w && every good_pair (pairs w))
-other_row k (map_of m) f e = ap (λ b. b && (keys_ok (map_of m) && (every good_pair m && true))) ((shape_decides k (map_of m)).1 f) ∙ ap (λ b. keys_ok (map_of m) && b) (and_true (every good_pair m))
-other_row k (list_of l) f e = ap (λ b. b && (every good_pair (unkeyed l) && true)) ((shape_decides k (list_of l)).1 f) ∙ and_true (every good_pair (unkeyed l))
-other_row k (text_of u) f e = let z : ◌≡◌ {A = ℕ} 0 1 = cc in absurd (omega arith)
-
-pub row_other : (x : Option Obj) → At ShapedObj x → none ≡ text_told x → (keys_told x && every good_pair (pairs_told x)) ≡ passes row_ok x
-row_other none f e = refl
-row_other (some o) f e = sym (other_row o.kind o.row f e)

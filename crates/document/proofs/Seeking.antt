@@ -1,17 +1,15 @@
 -- Seeking an object in a row, entry by entry.
-use Rattle.std.proofs.Common.{◌≡◌, ℕ, zero, suc, ◌+◌, ◌≤◌, Bool, true, false, cond, List, [], ◌∷◌, drop, sym, refl, ap, ◌∙◌, add-one, arith}
+use Rattle.std.proofs.Common.{◌≡◌, ℕ, zero, suc, ◌+◌, Bool, true, false, cond, List, [], ◌∷◌, drop, sym, refl, ap, ◌∙◌, add-one, arith}
 use mathlib.Core.Option.{Option, none, some}
 use Rattle.std.proofs.lemmas.Bool.{cond-true, cond-false}
 use Rattle.types.specs.declared.types.OpId.{OpId}
 use Rattle.meaning.specs.Entries.{Key, Content, scalar_of, object_of, Entry, Item, placed_as, Ref}
 use Rattle.meaning.specs.Patches.{Prop, key, pos}
 use Rattle.meaning.specs.Rows.{map_of, list_of, text_of}
-use Rattle.meaning.specs.Documents.{DocRow, Obj, placed_pairs, placed_items, row_placed, seek_l, seek_e, seek_p, seek}
-use Rattle.document.specs.Places.{first, nth, unkeyed, pairs, size_told, entry_told}
-use Rattle.document.specs.Paths.{names_content, names_it, key_at, prop_at, prop_told, seek_told}
-use Rattle.document.proofs.Walks.{drop_next, nth_past}
-use Rattle.document.proofs.Pairs.{entry_is, pairs_size}
-use Rattle.document.specs.Steps.{pairs_told}
+use Rattle.meaning.specs.Documents.{DocRow, Obj, placed_pairs, placed_items, seek_l, seek_e, seek_p}
+use Rattle.document.specs.Places.{first, nth, unkeyed, pairs, entry_told}
+use Rattle.document.specs.Paths.{names_content, names_it, key_at, prop_at, prop_told}
+use Rattle.document.proofs.Walks.{drop_next}
 
 -- the search from a place on
 abbrev seek_from : ℕ → ℕ → DocRow → Option Prop
@@ -22,15 +20,6 @@ seek_from i n (text_of t) = none
 abbrev pub seek_on : ℕ → ℕ → Option Obj → Option Prop
 seek_on i n none = none
 seek_on i n (some o) = seek_from i n o.row
-
-row_begins : (i : ℕ) (w : DocRow) → seek i (row_placed (λ r. r) w) ≡ seek_from i 0 w
-row_begins i (map_of m) = refl
-row_begins i (list_of l) = refl
-row_begins i (text_of t) = refl
-
-pub seek_begins : (i : ℕ) (x : Option Obj) → seek_told x i ≡ seek_on i 0 x
-seek_begins i none = refl
-seek_begins i (some o) = row_begins i o.row
 
 one_entry : {X : Type 0} (i : ℕ) (k : Content) (d : OpId) (f : Bool) (x y : X) → seek_e i (placed_as (λ r. r) k d f) x y ≡ cond (names_content i k d) x y
 one_entry i (scalar_of s) d f x y = refl
@@ -92,9 +81,6 @@ row_ends i n (text_of t) e = refl
 pub seek_ends : (i n : ℕ) (x : Option Obj) → none ≡ entry_told x n → seek_on i n x ≡ none
 seek_ends i n none e = refl
 seek_ends i n (some o) e = row_ends i n o.row e
-
-pub seek_past : (i n : ℕ) (x : Option Obj) → size_told x ≤ n → seek_on i n x ≡ none
-seek_past i n x h = seek_ends i n x (sym (entry_is x n ∙ nth_past (pairs_told x) n (omega (arith, pairs_size x))))
 
 step : (i n : ℕ) (x : Option Obj) (p : Key × Entry) → some p ≡ entry_told x n → seek_on i n x ≡ cond (names_it i p) (some (prop_told x n)) (seek_on i (n + 1) x)
 step i n none p e = let z : ◌≡◌ {A = ℕ} 0 1 = cc in absurd (omega arith)

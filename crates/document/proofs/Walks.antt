@@ -1,5 +1,5 @@
 -- Walking along a list: what a test of all says at one place.
-use Rattle.std.proofs.Common.{◌≡◌, ℕ, zero, suc, ◌+◌, ◌<◌, ◌≤◌, Bool, true, false, ◌&&◌, List, [], ◌∷◌, length, get_or, drop, sym, refl, ap, ◌∙◌, add-one, arith}
+use Rattle.std.proofs.Common.{◌≡◌, ℕ, zero, suc, ◌+◌, ◌<◌, ◌≤◌, Bool, true, ◌&&◌, List, [], ◌∷◌, length, get_or, drop, sym, refl, ap, ◌∙◌, add-one, arith}
 use mathlib.Core.Option.{none, some}
 use Rattle.std.proofs.lemmas.List.{drop_more, drop_all}
 use Rattle.std.proofs.lemmas.Bool.{and_parts}
@@ -41,12 +41,6 @@ module _ {X : Type 0} (p : X → Bool) (xs : List X) (i : ℕ) (so : every p (dr
 
   pub every_on : (t : Bool) → t ≡ passes p (nth xs i) → t ≡ true → every p (drop (i + 1) xs) ≡ every p xs
   every_on t e h = sym (every_here ∙ ap (λ b. b && every p (drop (i + 1) xs)) (sym e ∙ h))
-
-  pub every_off : (t : Bool) → t ≡ passes p (nth xs i) → t ≡ false → false ≡ every p xs
-  every_off t e h = sym (every_here ∙ ap (λ b. b && every p (drop (i + 1) xs)) (sym e ∙ h))
-
-  pub every_all : length xs ≤ i → true ≡ every p xs
-  every_all h = sym (ap (every p) (drop_all i xs h)) ∙ so
 
 -- a test at each place from one on, as a chain of all places makes it
 every_placed : {X : Type 0} (p : X → Bool) (xs : List X) (n i : ℕ) → length xs ≤ i + n → list_all (λ k. passes p (nth xs k)) (range_with_len i n) ≡ every p (drop i xs)

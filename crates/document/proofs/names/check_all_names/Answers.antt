@@ -1,7 +1,7 @@
 use Rattle.std.proofs.Common.{false, replicate, refl, arith}
 use Rattle.document.specs.Laws.{refs_ok}
 use Rattle.document.specs.Places.{nth}
-use Rattle.document.proofs.Walks.{every_on, every_all}
+use Rattle.document.proofs.Walks.{every_on}
 use Rattle.document.proofs.Marking.{none_marked, unmarked, next_clear}
 use Rattle.document.proofs.names.check_all_names.Goals as goal
 
@@ -15,6 +15,3 @@ loop-i-preserved g c =
       next_clear d c.loop-i.i c.check_names_at.new.marks c.args.rows.up (c.check_names_at.ensures.later c.if-not-check_names_at.false),
       every_on (refs_ok d) d c.loop-i.i c.loop-i.invariant.2 c.check_names_at.result c.check_names_at.ensures.test c.if-not-check_names_at.false,
     )
-
-pub returns : goal.returns
-returns g c = every_all (refs_ok (g.R.Rows.shaped c.args.rows.rows.now).doc) (g.R.Rows.shaped c.args.rows.rows.now).doc c.loop-i.i c.loop-i.invariant.2 (omega (arith, c.count-i-end.ensures))

@@ -1,19 +1,10 @@
-use Rattle.std.proofs.Common.{◌≡◌, rules, tests, List, [], ◌∷◌, ◌++◌, set, sym, refl, ap, ◌∙◌, subst, arith, length-append}
+use Rattle.std.proofs.Common.{List, [], ◌∷◌, ◌++◌, set, sym, ap, ◌∙◌, subst, arith, length-append}
 use mathlib.Core.Option.{map}
-use Rattle.std.proofs.lemmas.Bool.{eqb-true}
-use Rattle.types.specs.declared.types.ObjId.{ObjId}
-use Rattle.meaning.specs.Entries.{rank}
 use Rattle.document.specs.declared.step.PathStep.{PathStep}
 use Rattle.document.specs.Paths.{step_seen, Written}
-use Rattle.document.proofs.Climbing.{path_length, path_root, none_written, step_written, step_past}
+use Rattle.document.proofs.Climbing.{path_length, step_written, step_past}
 use Rattle.document.proofs.path.+climb.Goals as goal
 use Rattle.document.proofs.path.+climb.Goals.{then-k-steps, else-k-steps}
-
-pub returns-then-eq : goal.returns-then-eq
-returns-then-eq g t c =
-    let d = g.D.Document.rows c.args.doc.now in
-    let r : rank c.args.id ≡ 0 = search (rules, tests) in
-    ([], path_root d.doc d.lawful c.args.id r, refl, none_written d.doc c.args.steps.now)
 
 pub overflow_add-result : goal.overflow_add-result
 overflow_add-result g t c =
