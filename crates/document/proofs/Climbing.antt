@@ -1,5 +1,5 @@
 -- The path of an object, link by link.
-use Rattle.std.proofs.Common.{◌≡◌, ℕ, zero, suc, ◌+◌, ◌<◌, ◌≤◌, eqb, List, [], ◌∷◌, ◌++◌, length, take, drop, set, Some, None, Option as Answer, sym, refl, ap, ◌∙◌, subst, inl, inr, add-one, arith, length-append, length-set, take-suc-set}
+use Rattle.std.proofs.Common.{◌≡◌, ℕ, zero, suc, ◌+◌, ◌<◌, ◌≤◌, eqb, List, [], ◌∷◌, ◌++◌, length, take, drop, set, Some, sym, refl, ap, ◌∙◌, subst, inl, inr, add-one, arith, length-append, length-set, take-suc-set}
 use mathlib.Core.Option.{Option, none, some, map}
 use Rattle.std.proofs.lemmas.List.{take_all, take-append-le, drop-set-lt}
 use Rattle.std.proofs.lemmas.Bool.{cond-true, cond-false, cases_Bool, eqb-true, eqb-false, eq-eqb, ne_eqb}
@@ -110,10 +110,6 @@ module _ (d : Doc) (law : Lawful d) where
   told none h e = absurd (head_none h e)
   told (some c) h e = (c, refl, head_some c h e)
 
-  untold : (x : Option Obj) → None ≡ head_told x → x ≡ none
-  untold none e = refl
-  untold (some c) e = let q : ◌≡◌ {A = Answer Head} None (Some (head_of c)) = e in let z : ◌≡◌ {A = ℕ} 0 1 = cc in absurd (omega arith)
-
   module _ (o : ObjId) (above : 0 < rank o) (h : Head) (is : Some h ≡ head_told (find d (rank o))) where
     child : (c : Obj) × (find d (rank o) ≡ some c) × (h ≡ head_of c)
     child = told (find d (rank o)) h is
@@ -137,9 +133,6 @@ module _ (d : Doc) (law : Lawful d) where
 
       same_rank : rank q.id ≡ rank h.parent
       same_rank = ap (λ (k : Head). rank k.id) parent.2 ∙ find_name d (rank h.parent) parent.0 parent.1
-
-      pub hidden : seek_told (find d (rank h.parent)) (rank o) ≡ none → path_of d o ≡ none
-      hidden e = by_parent ∙ ap (λ t. on_some t (λ s. map (after q.id s) (climb d (rank h.parent) (rank h.parent)))) e
 
       pub linked : (n : ℕ) → seek_told (find d (rank h.parent)) (rank o) ≡ some (prop_told (find d (rank h.parent)) n) → Linked d o (Some (record { leaves = q.id; place = n }))
       linked n e = (

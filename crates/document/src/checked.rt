@@ -1,4 +1,4 @@
-ghost use Rattle.std.specs.Prelude.{◌≡◌, true, false};
+ghost use Rattle.std.specs.Prelude.{◌≡◌, true, false, ⊤};
 ghost use Rattle.types.specs.declared.error.Refusal.TheVariants.{UnlawfulRows};
 ghost use Rattle.meaning.specs.Documents.{Lawful};
 ghost use Rattle.document.specs.Laws.{lawful};
@@ -21,6 +21,10 @@ pub struct Checked<R: Rows> {
 }
 
 impl<R: Rows + Copy> Clone for Checked<R> {
+    ghost is_clone = { λ x y. x ≡ y };
+
+    ghost is_infallible = { λ _. ⊤ };
+
     fn clone(&self) -> Result<Self, AllocError> {
         Ok(*self)
     }

@@ -1,4 +1,4 @@
-ghost use Rattle.std.specs.Prelude.{◌≡◌, true, is_some, IfSome};
+ghost use Rattle.std.specs.Prelude.{◌≡◌, true, ⊤, is_some, IfSome};
 ghost use Rattle.meaning.specs.Entries.{rank};
 ghost use Rattle.meaning.specs.Documents.{find};
 ghost use Rattle.document.specs.Laws.{rises};
@@ -21,6 +21,10 @@ pub struct Rising<'a, R: Rows> {
 }
 
 impl<R: Rows> Clone for Rising<'_, R> {
+    ghost is_clone = { λ x y. x ≡ y };
+
+    ghost is_infallible = { λ _. ⊤ };
+
     fn clone(&self) -> Result<Self, AllocError> {
         Ok(*self)
     }
