@@ -4,6 +4,7 @@ ghost use Rattle.packed_rows.specs.Rows.{Packed};
 
 mod calls;
 
+// Both slices are lent by the caller, who bounds the memory.
 #[derive(Drop)]
 pub struct PackedRows<'m, T> {
     places: &'m mut [T],

@@ -1,4 +1,5 @@
-// Moving and replacing elements of a slice.
+// Moving and replacing elements of a slice, for callers that count for themselves how many places are in use;
+// `Sequence` holds the places and the count.
 ghost use Rattle.std.specs.Prelude.{◌≡◌, ℕ, ◌+◌, ◌-◌, ◌<◌, ◌≤◌, [], ◌∷◌, length, take, slice_index_or};
 ghost use Rattle.sequence_tree.specs.Lists.{spliced, Replaced};
 ghost use Rattle.sequence_tree.specs.Refusals.{splicing};
