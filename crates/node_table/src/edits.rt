@@ -39,7 +39,8 @@ fn clear_units<U: Copy>(begins: &mut [u32], units: &mut [U], c: usize)
     }
 }
 
-// The free places from the one at `from` on lose what they held.
+// The free places from the one at `from` on lose what they held. Over the parts: the tables are not in order
+// until all is done.
 fn wipe<U: Copy>(
     chains: &mut Chains,
     begins: &mut [u32],
@@ -57,6 +58,7 @@ fn wipe<U: Copy>(
     ensures wiped { Wiped (free_row chains.old) from (length (row chains.old.starts.now chains.old.chain.now (free_row chains.old))) chains.old.nodes.now chains.new.nodes.now chains.old.starts.now chains.old.chain.now begins.old begins.new units.old units.new bytes.new }
 {
     let free = chains.free_row();
+    // By place: the chain cannot be lent while its nodes change.
     for p in from..chains.children(free).len() {
         let c = chains.child_at(free, p);
         *bytes -= item_bytes(chains.item(c));
@@ -65,7 +67,7 @@ fn wipe<U: Copy>(
     }
 }
 
-// What c holds gives way to new content, with no children and no units; its key stays.
+// What c holds gives way to new content, with no children and no units; its key stays. Over the parts as well.
 fn refill<U: Copy>(
     chains: &mut Chains,
     begins: &mut [u32],

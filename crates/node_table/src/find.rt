@@ -8,6 +8,7 @@ use crate::tables::Tables;
 use std::cmp::Ordering;
 
 // Keys compare by bytes, a part of a key before the whole.
+#[tactic(auto, using(crate::proofs::KeyOrder::keys_are))]
 pub fn compare_keys(a: &[u8], b: &[u8]) -> Ordering
     ensures { result ≡ compare_keys a.now b.now }
 {

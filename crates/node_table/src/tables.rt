@@ -6,7 +6,7 @@ use node_chains::chains::Chains;
 
 // Each node has an entry: its key and its string lie in slots of `keys` and `strings`, the units of its
 // text are a row of `units`, which begins where `begins` says. `bytes` counts the bytes of all keys and
-// strings.
+// strings. (`begins` and `units` are no PackedRows: its changes can be refused, and here the contract has the room.)
 #[derive(Drop)]
 pub struct Tables<'m, U> {
     pub chains: Chains<'m>,
