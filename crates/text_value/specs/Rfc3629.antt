@@ -70,6 +70,10 @@ abbrev pub code_points : List ℕ → List ℕ
 code_points [] = []
 code_points (b ∷ bs) = chars_after (continuation_len b) (lead_bits b) bs
 
+-- Whether an octet is none that follows a lead octet, 10xxxxxx.
+abbrev pub leads : ℕ → Bool
+leads b = not (nat_le 0x80 b && nat_le b 0xBF)
+
 -- UTF-8 as a test: what the bytes read as are characters, and these are written as the same bytes.
 unfoldable pub utf8 : List ℕ → Bool
 utf8 bs = characters (code_points bs) && bytes_eq (all_octets (code_points bs)) bs

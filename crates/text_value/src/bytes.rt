@@ -28,7 +28,7 @@ impl TextValue for Utf8 {
             return None;
         }
         let n = Self::width(s);
-        out[0..n].copy_from_slice(s.as_bytes());
+        out[..n].copy_from_slice(s.as_bytes());
         Some(n)
     }
 }

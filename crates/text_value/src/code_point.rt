@@ -1,5 +1,6 @@
 // Text counted in code points.
-ghost use Rattle.std.specs.Prelude.{◌≡◌, length};
+ghost use Rattle.std.specs.Prelude.{◌≡◌, length, count_by};
+ghost use Rattle.text_value.specs.Rfc3629.{leads};
 ghost use Rattle.text_value.specs.Units.{point_units};
 ghost use Rattle.text_value.specs.Rfc.{points_fewer, points_append, points_same};
 ghost use Rattle.std.proofs.Common.{rules};
@@ -29,6 +30,8 @@ impl TextValue for CodePoint {
         if !Self::fits(s, out.len()) {
             return None;
         }
+        // Counted by hand: the count is the answer, and of places that an adapter of `iter_mut` lends
+        // a proof knows nothing afterwards.
         let mut n = 0;
         for c in s.chars() {
             out[n] = c as u32;
@@ -38,16 +41,16 @@ impl TextValue for CodePoint {
     }
 }
 
-// How many code points the text has: one for each byte that is no 10xxxxxx.
+// How many code points the text has: one for each byte that leads one.
 fn count_points(s: &str) -> usize
     ensures { result ≡ length (point_units s.now) }
 {
-    let bytes = s.as_bytes();
-    let mut count = 0;
-    for b in bytes {
-        if *b < 0x80 || 0xC0 <= *b {
-            count += 1;
-        }
-    }
-    count
+    count_leads(s.as_bytes())
+}
+
+// How many bytes are no 10xxxxxx.
+fn count_leads(bytes: &[u8]) -> usize
+    ensures { result ≡ count_by leads bytes.now }
+{
+    bytes.iter().filter(|b| !matches!(**b, 0x80..=0xBF)).count()
 }

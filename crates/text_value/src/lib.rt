@@ -27,10 +27,7 @@ pub fn as_text(bytes: &[u8]) -> Option<&str>
     ensures rfc { Decides (is_some result) (IsUtf8 bytes.now) }
     ensures text { IfSome result (λ s. (s.now ≡ bytes.now) × OnlyReading bytes.now (code_points bytes.now)) }
 {
-    match read(bytes) {
-        Ok(s) => Some(s),
-        Err(_) => None,
-    }
+    read(bytes).ok()
 }
 
 // The library's answer, with what it says by the standard.
