@@ -11,48 +11,30 @@ use record::record::{OpenRecord, ShelfRecord};
 use std::{env, fs};
 use tree::show_document;
 
-// How the next files are shown.
-#[derive(Clone, Copy)]
-enum Shown {
-    Lines,
-    Record,
-}
-
 fn main(rt: HostRuntime) -> anyhow::Result<()> {
-    run(&rt)
-}
-
-fn run(rt: &HostRuntime) -> anyhow::Result<()> {
-    let mut shown = Shown::Lines;
-    for word in env::args(rt)?.skip(1) {
+    // How the next files are shown.
+    let mut show: fn(&HostRuntime, &str) -> anyhow::Result<()> = show_lines;
+    for word in env::args(&rt)?.skip(1) {
         match word.as_str() {
-            "lines" => shown = Shown::Lines,
-            "record" => shown = Shown::Record,
-            path => show_file(rt, shown, path)?,
+            "lines" => show = show_lines,
+            "record" => show = show_record,
+            path => show(&rt, path)?,
         }
     }
     Ok(())
 }
 
-fn show_file(rt: &HostRuntime, shown: Shown, path: &str) -> anyhow::Result<()> {
-    let bytes = fs::read(rt, path)?;
-    match shown {
-        Shown::Lines => show_lines(rt, bytes.as_slice()),
-        Shown::Record => show_record(rt, path, bytes.as_slice()),
-    }
-}
-
 // The record's document, or why it is refused.
-fn show_record(rt: &HostRuntime, path: &str, bytes: &[u8]) -> anyhow::Result<()> {
+fn show_record(rt: &HostRuntime, path: &str) -> anyhow::Result<()> {
+    let bytes = fs::read(rt, path)?;
     let mut record = ShelfRecord::bare_root();
-    match record.open(bytes) {
+    match record.open(bytes.as_slice()) {
         Ok(()) => {
             println!(rt; "{path}: a document")?;
             show_document(rt, &record)
         }
         Err(refusal) => {
-            let number = refusal.number();
-            println!(rt; "{path}: refused by {number}, {refusal:?}")?;
+            println!(rt; "{path}: refused by {}, {refusal:?}", refusal.number())?;
             Ok(())
         }
     }

@@ -3,7 +3,7 @@ use document::document::Document;
 use document::view::Entry;
 use text_value::as_text;
 use types::bounds::DOCUMENT_OBJECTS;
-use types::types::{ObjId, ObjType, OpId};
+use types::types::{ObjId, OpId};
 use types::value::{ScalarValue, Value};
 
 pub fn show_document<D: Document>(rt: &HostRuntime, doc: &D) -> anyhow::Result<()> {
@@ -26,9 +26,9 @@ fn show_object<D: Document>(
         show_text(rt, text)?;
         println!(rt)?;
     }
+    let keyed = has_keys(doc, id);
     for n in 0..doc.size(id) {
         if let Some(entry) = doc.entry(id, n) {
-            let keyed = has_keys(doc, id);
             indent(rt, left)?;
             show_entry(rt, keyed, n, entry)?;
             if let Value::Object(_) = entry.value {
@@ -40,10 +40,7 @@ fn show_object<D: Document>(
 }
 
 fn has_keys<D: Document>(doc: &D, id: ObjId) -> bool {
-    match doc.object(id) {
-        Some(head) => !head.kind.is_sequence(),
-        None => false,
-    }
+    doc.object(id).is_some_and(|head| !head.kind.is_sequence())
 }
 
 fn indent(rt: &HostRuntime, left: usize) -> anyhow::Result<()> {
@@ -73,21 +70,9 @@ fn show_value(rt: &HostRuntime, value: Value<'_>, id: OpId) -> anyhow::Result<()
     match value {
         Value::Scalar(scalar) => show_scalar(rt, scalar),
         Value::Object(kind) => {
-            let name = kind_name(kind);
-            let counter = id.counter;
-            let actor = id.actor;
-            print!(rt; "{name} ({counter}, {actor})")?;
+            print!(rt; "{kind} ({}, {})", id.counter, id.actor)?;
             Ok(())
         }
-    }
-}
-
-fn kind_name(kind: ObjType) -> &'static str {
-    match kind {
-        ObjType::Map => "map",
-        ObjType::Table => "table",
-        ObjType::List => "list",
-        ObjType::Text => "text",
     }
 }
 
