@@ -18,16 +18,14 @@ const OPENINGS: u32 = 200;
 
 const ROUNDS: u32 = 500;
 
-fn main(rt: HostRuntime) -> anyhow::Result<()> {
-    run(&rt)
-}
+const NOWHERE: Window = Window { from: 0, len: 0 };
 
-fn run(rt: &HostRuntime) -> anyhow::Result<()> {
-    for path in env::args(rt)?.skip(1) {
-        let bytes = fs::read(rt, path.as_str())?;
-        time_record(rt, bytes.as_slice())?;
+fn main(rt: HostRuntime) -> anyhow::Result<()> {
+    for path in env::args(&rt)?.skip(1) {
+        let bytes = fs::read(&rt, path.as_str())?;
+        time_record(&rt, bytes.as_slice())?;
     }
-    time_tables(rt)
+    time_tables(&rt)
 }
 
 fn time_record(rt: &HostRuntime, bytes: &[u8]) -> anyhow::Result<()> {
@@ -40,32 +38,31 @@ fn time_record(rt: &HostRuntime, bytes: &[u8]) -> anyhow::Result<()> {
         }
     }
     let micros = start.elapsed(rt)?.as_micros();
-    let len = bytes.len();
-    eprintln!(rt; "a record of {len} bytes opened {opened} times: {micros} microseconds")?;
+    eprintln!(rt;
+        "a record of {} bytes opened {opened} times: {micros} microseconds",
+        bytes.len()
+    )?;
     time_asking(rt, "record", &record)
 }
 
 fn time_tables(rt: &HostRuntime) -> anyhow::Result<()> {
     let entries = many_entries(rt.alloc())?;
-    let root = Window { from: 0, len: 0 };
-    let list = Window {
-        from: 0,
-        len: entries.len(),
+    let root = ObjectRow {
+        id: ObjId::root(),
+        parent: ObjId::root(),
+        kind: ObjType::Map,
+        row: NOWHERE,
     };
-    let objects = [
-        ObjectRow {
-            id: ObjId::root(),
-            parent: ObjId::root(),
-            kind: ObjType::Map,
-            row: root,
+    let list = ObjectRow {
+        id: listed(),
+        kind: ObjType::List,
+        row: Window {
+            from: 0,
+            len: entries.len(),
         },
-        ObjectRow {
-            id: listed(),
-            parent: ObjId::root(),
-            kind: ObjType::List,
-            row: list,
-        },
-    ];
+        ..root
+    };
+    let objects = [root, list];
     let mut tables = ShelfTables::bare_root();
     if tables.open(&objects, entries.as_slice(), b"").is_err() {
         return Err(anyhow!("the tables are refused"));
@@ -75,24 +72,16 @@ fn time_tables(rt: &HostRuntime) -> anyhow::Result<()> {
 
 // The list that is asked.
 fn listed() -> ObjId {
-    ObjId(OpId {
-        counter: 1,
-        actor: 1,
-    })
+    ObjId(OpId::new(1, 1))
 }
 
 fn many_entries(heap: Global) -> Result<Vec<EntryRow>, AllocError> {
     let mut entries = Vec::new(heap);
-    for i in 0..2000u32 {
-        let key = Window { from: 0, len: 0 };
-        let id = OpId {
-            counter: i.saturating_add(1),
-            actor: 1,
-        };
+    for counter in 1..=2000 {
         entries.push(EntryRow {
-            key,
+            key: NOWHERE,
             cell: Cell::Scalar(ScalarOf::Null),
-            id,
+            id: OpId::new(counter, 1),
             conflict: false,
         })?;
     }
@@ -104,11 +93,9 @@ fn time_asking<D: Document>(rt: &HostRuntime, name: &str, doc: &D) -> anyhow::Re
     let mut asked = 0u64;
     let mut sum = 0u32;
     for _ in 0..ROUNDS {
-        for n in 0..doc.size(listed()) {
-            if let Some(entry) = doc.entry(listed(), n) {
-                asked = asked.saturating_add(1);
-                sum = sum.wrapping_add(entry.id.counter);
-            }
+        for entry in (0..doc.size(listed())).filter_map(|n| doc.entry(listed(), n)) {
+            asked = asked.saturating_add(1);
+            sum = sum.wrapping_add(entry.id.counter);
         }
     }
     let micros = start.elapsed(rt)?.as_micros();

@@ -6,20 +6,16 @@ use document::document::Document;
 use record::record::{OpenRecord, ShelfRecord};
 use std::alloc::{AllocError, Global};
 use std::io::{BufRead, BufReader};
+use std::ops::Add;
 use types::bounds::DOCUMENT_OBJECTS;
 use types::types::ObjId;
 use types::value::Value;
 
 fn main(rt: HostRuntime) -> anyhow::Result<()> {
-    run(&rt)
-}
-
-fn run(rt: &HostRuntime) -> anyhow::Result<()> {
     let heap = rt.alloc();
     for line in BufReader::new(heap, rt.stdin())?.lines(heap) {
-        let text = line?;
-        let bytes = unhex(heap, text.as_str().as_bytes())?;
-        show_answer(rt, bytes.as_slice())?;
+        let bytes = unhex(heap, line?.as_str().as_bytes())?;
+        show_answer(&rt, bytes.as_slice())?;
     }
     Ok(())
 }
@@ -47,31 +43,26 @@ fn show_answer(rt: &HostRuntime, bytes: &[u8]) -> anyhow::Result<()> {
     let mut record = ShelfRecord::bare_root();
     match record.open(bytes) {
         Ok(()) => {
-            let Tallied {
-                objects,
-                entries,
-                text,
-            } = tally(&record, ObjId::root(), DOCUMENT_OBJECTS);
-            println!(rt; "ok {objects} {entries} {text}")?;
+            let all = tally(&record, ObjId::root(), DOCUMENT_OBJECTS);
+            println!(rt; "ok {} {} {}", all.objects, all.entries, all.text)?;
         }
-        Err(refusal) => {
-            let number = refusal.number();
-            println!(rt; "{number}")?;
-        }
+        Err(refusal) => println!(rt; "{}", refusal.number())?,
     }
     Ok(())
 }
 
 // Objects, entries and text bytes.
-#[derive(Clone, Copy)]
+#[derive(Clone, Copy, Default)]
 struct Tallied {
     objects: usize,
     entries: usize,
     text: usize,
 }
 
-impl Tallied {
-    fn plus(self, more: Tallied) -> Tallied {
+impl Add for Tallied {
+    type Output = Tallied;
+
+    fn add(self, more: Tallied) -> Tallied {
         Tallied {
             objects: self.objects.saturating_add(more.objects),
             entries: self.entries.saturating_add(more.entries),
@@ -83,30 +74,23 @@ impl Tallied {
 // What an object and all below it have; there are at most `left` levels more.
 fn tally<D: Document>(doc: &D, id: ObjId, left: usize) -> Tallied {
     if left == 0 {
-        return Tallied {
-            objects: 0,
-            entries: 0,
-            text: 0,
-        };
+        return Tallied::default();
     }
+    let own = Tallied {
+        objects: 1,
+        ..Tallied::default()
+    };
     if let Some(bytes) = doc.text(id) {
         return Tallied {
-            objects: 1,
-            entries: 0,
             text: bytes.len(),
+            ..own
         };
     }
-    let mut all = Tallied {
-        objects: 1,
-        entries: doc.size(id),
-        text: 0,
-    };
-    for n in 0..doc.size(id) {
-        if let Some(entry) = doc.entry(id, n) {
-            if let Value::Object(_) = entry.value {
-                all = all.plus(tally(doc, ObjId(entry.id), left - 1));
-            }
-        }
-    }
-    all
+    let entries = doc.size(id);
+    let below = left - 1;
+    (0..entries)
+        .filter_map(|n| doc.entry(id, n))
+        .filter(|entry| matches!(entry.value, Value::Object(_)))
+        .map(|entry| tally(doc, ObjId(entry.id), below))
+        .fold(Tallied { entries, ..own }, Tallied::add)
 }
