@@ -1,4 +1,5 @@
-ghost use Rattle.std.specs.Prelude.{◌≡◌, ℕ, ◌<◌, true, length, take, is_some, None, MatchOption, slice_index};
+ghost use Rattle.std.specs.Prelude.{◌≡◌, ℕ, ◌<◌, true, length, take, is_some, None, Ok, Err, slice_index};
+ghost use Rattle.types.specs.declared.error.Refusal.TheVariants.{InvalidLayout};
 ghost use Rattle.record_codec.specs.Layout.{put_obj, parsed, doc_of};
 ghost use Rattle.record.specs.Index.{offsets, entry_offsets, first_numbers, entry_count};
 ghost use Rattle.record.specs.Reading.{FoundAt};
@@ -10,6 +11,7 @@ use document::rows::Rows;
 use document::view::{Entry, Head};
 use record_codec::read::{take_entry, take_head, take_text, take_u32};
 use types::bounds::RECORD_BYTES;
+use types::error::Refusal;
 use types::types::ObjType;
 
 // The record of the root alone: one object, four numbers of its identity and
@@ -35,7 +37,7 @@ impl<'a> RecordIndex<'a> {
     pub fn bare() -> RecordIndex<'a>
         ensures { result.bytes.now ≡ bare_record }
     {
-        let mut places = Places::none();
+        let mut places = Places::NONE;
         places.starts[0] = 4;
         RecordIndex {
             bytes: BARE,
@@ -44,26 +46,30 @@ impl<'a> RecordIndex<'a> {
         }
     }
 
-    // Reads a whole record once; none where the bytes do not follow the
-    // layout, the order of objects aside.
-    pub fn read(bytes: &'a [u8]) -> Option<RecordIndex<'a>>
-        ensures { MatchOption result (parsed bytes.now ≡ None) (λ index. index.bytes.now ≡ bytes.now) }
+    // Reads a whole record once, and writes the index whole. Where the bytes
+    // do not follow the layout, the order of objects aside, it stays. In
+    // place: a result that holds an index is copied, and opening gets slower.
+    pub fn read(&mut self, bytes: &'a [u8]) -> Result<(), Refusal>
+        ensures { elim result [ Ok _ ↦ self.new.bytes.now ≡ bytes.now | Err e ↦ (e ≡ InvalidLayout) × (parsed bytes.now ≡ None) × (self.new ≡ self.old) ] }
     {
         if bytes.len() > RECORD_BYTES {
-            return None;
+            return Err(Refusal::InvalidLayout);
         }
-        let (count, rest) = take_u32(bytes)?;
+        let (count, rest) = take_u32(bytes).ok_or(Refusal::InvalidLayout)?;
         let objects = count as usize;
-        let mut places = Places::none();
-        let end = places.scan(objects, Cursor::start(bytes.len(), rest))?;
+        let mut places = Places::NONE;
+        let end = places
+            .scan(objects, Cursor::start(bytes.len(), rest))
+            .ok_or(Refusal::InvalidLayout)?;
         if !end.is_empty() {
-            return None;
+            return Err(Refusal::InvalidLayout);
         }
-        Some(RecordIndex {
+        *self = RecordIndex {
             bytes,
             objects,
             places,
-        })
+        };
+        Ok(())
     }
 
     // The head of the object at that place, and the bytes from its row on.
@@ -105,8 +111,9 @@ impl Rows for RecordIndex<'_> {
         if n >= count as usize {
             return None;
         }
-        let place = self.places.entries[self.places.firsts[i] as usize + n];
-        let (entry, _) = take_entry(!head.kind.is_sequence(), &self.bytes[place as usize..])?;
+        let place = self.places.entries[self.places.firsts[i] as usize + n] as usize;
+        let keyed = !head.kind.is_sequence();
+        let (entry, _) = take_entry(keyed, &self.bytes[place..])?;
         Some(entry)
     }
 

@@ -19,21 +19,15 @@ pub struct Places {
 }
 
 impl Places {
-    ghost use Rattle.std.specs.Prelude.{◌≡◌, replicate};
+    ghost use Rattle.std.specs.Prelude.{◌≡◌};
     ghost use Rattle.record.specs.Reading.{IndexesAll};
 
     // No place at all.
-    pub fn none() -> Places
-        ensures starts { result.starts ≡ replicate OBJECTS 0 }
-        ensures firsts { result.firsts ≡ replicate OBJECTS 0 }
-        ensures entries { result.entries ≡ replicate ENTRIES 0 }
-    {
-        Places {
-            starts: [0; OBJECTS],
-            firsts: [0; OBJECTS],
-            entries: [0; ENTRIES],
-        }
-    }
+    pub const NONE: Places = Places {
+        starts: [0; OBJECTS],
+        firsts: [0; OBJECTS],
+        entries: [0; ENTRIES],
+    };
 
     // Reads that many objects, and tells what is left then.
     pub fn scan<'a>(&mut self, count: usize, from: Cursor<'a>) -> Option<&'a [u8]>

@@ -4,8 +4,8 @@ ghost use Rattle.record.specs.Told.{bare_doc};
 ghost use Rattle.record.specs.Opening.{opening};
 
 use crate::index::RecordIndex;
-use document::check_rising;
 use document::checked::Checked;
+use document::{check_rising, check_rows};
 use types::error::Refusal;
 
 // A document that is read from the bytes of a record, which it borrows.
@@ -33,11 +33,15 @@ impl<'a> OpenRecord<'a> for ShelfRecord<'a> {
         ensures answer { result ≡ opening bytes.now }
         ensures holds { elim result [ Ok _ ↦ says bytes.now ≡ Some (doc_of self.new.rows.bytes.now) | Err _ ↦ self.new ≡ self.old ] }
     {
-        let index = RecordIndex::read(bytes).ok_or(Refusal::InvalidLayout)?;
+        let mut index = RecordIndex::bare();
+        index.read(bytes)?;
         if !check_rising(&index) {
             return Err(Refusal::InvalidLayout);
         }
-        *self = Checked::check(index)?;
+        if !check_rows(&index) {
+            return Err(Refusal::UnlawfulRows);
+        }
+        *self = Checked::new(index);
         Ok(())
     }
 }

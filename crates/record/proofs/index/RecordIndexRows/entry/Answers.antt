@@ -39,10 +39,10 @@ pub returns-in_err-entry : goal.returns-in_err-entry
 returns-in_err-entry c =
     let s = c.args.self.now in
     absurd (unread s c.args.n c.in_ok-head.ensures (text_is c.in_ok-head.head.kind c.eq.result c.eq.ensures ∙ c.if-eq.false) c.in_ok-count.ensures c.if-n-count.false
-    _ _ (keys_are c.in_ok-head.head.kind c.is_sequence.result c.is_sequence.ensures) (take_rest s.bytes.now (get_or s.places.entries (get_or s.places.firsts c.args.i 0 + c.args.n) 0)) c.in_err-entry.ensures)
+    _ _ (keys_are c.in_ok-head.head.kind c.is_sequence-keyed.result c.is_sequence-keyed.ensures) (take_rest s.bytes.now (get_or s.places.entries (get_or s.places.firsts c.args.i 0 + c.args.n) 0)) c.in_err-entry.ensures)
 
 pub returns : goal.returns
 returns c =
     let s = c.args.self.now in
     told s c.args.n c.in_ok-head.ensures (text_is c.in_ok-head.head.kind c.eq.result c.eq.ensures ∙ c.if-eq.false) c.in_ok-count.ensures c.if-n-count.false
-    _ _ c.in_ok-entry.entry c.in_ok-entry.field-0-1.now (keys_are c.in_ok-head.head.kind c.is_sequence.result c.is_sequence.ensures) (take_rest s.bytes.now (get_or s.places.entries (get_or s.places.firsts c.args.i 0 + c.args.n) 0)) c.in_ok-entry.ensures
+    _ _ c.in_ok-entry.entry c.in_ok-entry.field-0-1.now (keys_are c.in_ok-head.head.kind c.is_sequence-keyed.result c.is_sequence-keyed.ensures) (take_rest s.bytes.now (get_or s.places.entries (get_or s.places.firsts c.args.i 0 + c.args.n) 0)) c.in_ok-entry.ensures
