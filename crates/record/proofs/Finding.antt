@@ -83,12 +83,7 @@ row_count (list_of l) = (put_many (put_slot false) (unkeyed l), ap (λ n. put32 
 row_count (text_of t) = (t, refl)
 
 with_entries : (k : ObjType) (w : DocRow) → FitsKind k w → 0 < length (pairs w) → OfSlots (has_keys k) w
-with_entries Map w f l = of_slots Map w refl f
-with_entries Table w f l = of_slots Table w refl f
-with_entries Sequence w f l = of_slots Sequence w refl f
-with_entries Text (map_of m) f l = absurd f
-with_entries Text (list_of m) f l = absurd f
-with_entries Text (text_of t) f l = absurd (omega arith)
+with_entries k w f l = grind (arith, of_slots)
 
 slots_good : (keyed : Bool) (w : DocRow) → OfSlots keyed w → WritableRow w → Every (WritableSlot keyed) (pairs w)
 slots_good keyed w o g = (o.able g).1
@@ -118,7 +113,7 @@ places_length at (o ∷ os) =
 count_room : (d : Doc) (i n : ℕ) → i < length d → n < length (pairs (get_or d i no_obj).row) → count_to d i + n < entry_count d
 count_room [] i n l h = absurd (omega arith)
 count_room (o ∷ os) zero n l h = omega arith
-count_room (o ∷ os) (suc i) n l h = let k = count_room os i n (omega arith) h in omega arith
+count_room (o ∷ os) (suc i) n l h = grind (arith, count_room os i n)
 
 -- An entry of the first object stands where its offset says.
 in_row : (o : Obj) (n at : ℕ) (pre r : List ℕ) → FitsKind o.kind o.row → length pre ≡ at → n < length (pairs o.row)
@@ -267,20 +262,13 @@ module _ (bs firsts places : List ℕ) (objects i : ℕ) (B : Bytes bs) (said : 
 
 -- Rows by their kinds.
 no_words : (k : ObjType) (t : List ℕ) → FitsKind k {W = List ℕ} {E = Entry} (text_of t) → is_text_kind k ≡ false → ⊥
-no_words Map t f e = f
-no_words Table t f e = f
-no_words Sequence t f e = f
-no_words Text t f e = false≢true (sym e)
+no_words k t f e = grind arith
 
 plain_row : (k : ObjType) (w : DocRow) → FitsKind k w → is_text_kind k ≡ false → text_of? w ≡ none
-plain_row k (map_of m) f e = refl
-plain_row k (list_of l) f e = refl
-plain_row k (text_of t) f e = absurd (no_words k t f e)
+plain_row k w f e = grind (arith, no_words)
 
 pairs_size : (k : ObjType) (w : DocRow) → FitsKind k w → is_text_kind k ≡ false → length (pairs w) ≡ size_of w
-pairs_size k (map_of m) f e = refl
-pairs_size k (list_of l) f e = unkeyed_length l
-pairs_size k (text_of t) f e = absurd (no_words k t f e)
+pairs_size k w f e = grind (arith, no_words, unkeyed_length)
 
 words : (w : DocRow) → FitsKind Text w → (t : List ℕ) × (w ≡ text_of t)
 words (map_of m) f = absurd f
@@ -288,15 +276,10 @@ words (list_of l) f = absurd f
 words (text_of t) f = (t, refl)
 
 text_row : (k : ObjType) (w : DocRow) → FitsKind k w → is_text_kind k ≡ true → (t : List ℕ) × (w ≡ text_of t)
-text_row Map w f e = absurd (false≢true e)
-text_row Table w f e = absurd (false≢true e)
-text_row Sequence w f e = absurd (false≢true e)
-text_row Text w f e = words w f
+text_row k w f e = grind arith
 
 row_small : (w : DocRow) → WritableRow w → size_of w < 4294967296
-row_small (map_of m) g = g.0
-row_small (list_of l) g = let h = g.0 in let e = unkeyed_length l in omega arith
-row_small (text_of t) g = g.0
+row_small w g = grind (arith, unkeyed_length)
 
 -- What follows the head of an object that was found.
 module _ (bs : List ℕ) (i : ℕ) (B : Bytes bs) (said : is_some (parsed bs) ≡ true) (h : Head) (rest : List ℕ) (f : Found (doc_of bs) i h rest) where

@@ -51,4 +51,4 @@ module _ (s : RecordIndex) where
 
 -- Lawful rows have rising identities.
 pub lawful_rises : (d : Doc) → lawful d ≡ true → rises d ≡ true
-lawful_rises d h = (and_parts (rises d) _ (and_parts (leb (length d) 1024) _ h).1).0
+lawful_rises d h = grind arith

@@ -48,11 +48,8 @@ every_push P (y ∷ xs) x h p = (h.0, every_push P xs x h.1 p)
 module _ {A : Type 0} {get : List ℕ → Got A} {put : A → List ℕ} {Good : A → Type 0} (law : Law get put Good) where
   stops : (xs : List A) (n : ℕ) (r : List ℕ) → Every Good xs → length xs < n → get r ≡ None → get_many get n (put_many put xs ++ r) ≡ None
   stops xs zero r g h e = absurd (omega arith)
-  stops [] (suc n) r g h e = ap (λ t. next t (λ a r. next (get_many get n r) (λ more s. Some (a ∷ more, s)))) e
-  stops (x ∷ xs) (suc n) r g h e =
-      ap (get_many get (suc n)) (append_assoc (put x) (put_many put xs) r)
-      ∙ (ap (λ t. next t (λ a r. next (get_many get n r) (λ more s. Some (a ∷ more, s)))) (law.back x (put_many put xs ++ r) g.0)
-      ∙ ap (λ t. next t (λ more s. Some (x ∷ more, s))) (stops xs n r g.1 (omega arith) e))
+  stops [] (suc n) r g h e = grind arith
+  stops (x ∷ xs) (suc n) r g h e = grind (arith, append_assoc, law.back, stops xs n r)
 
   module _ {i total from : ℕ} {bs old new r : List ℕ} {done : List A} (now : Going put Good i total from bs old new r done) where
     pub halted : (n : ℕ) → i < n → get r ≡ None → get_many get n bs ≡ None

@@ -71,15 +71,7 @@ keys_are k b e = grind arith
 -- The entries of a row, read behind its count.
 pub row_indexed : (k : ObjType) (from mid : Cursor) (old new : List ℕ) {keyed : Bool} {n : ℕ} {r : List ℕ} (res : Option Cursor) → is_text_kind k ≡ false → keyed ≡ has_keys k → Some (n, r) ≡ get32 from.rest.now
     → mid.total ≡ from.total → mid.rest.now ≡ r → mid.entries ≡ from.entries → IndexesEntries keyed n mid old new res → IndexesRow k from old new res
-row_indexed k from mid old new {keyed = keyed} {n = n} {r = r} None h q e t m z f =
-    cond-false (is_text_kind k) (get_words from.rest.now) (get_entries (has_keys k) from.rest.now) h
-    ∙ (ap (λ x. next (next x (λ n r. get_many (get_slot (has_keys k)) n r)) (λ m r. Some (row_of (has_keys k) m, r))) (sym e)
-    ∙ ap (λ x. next x (λ m r. Some (row_of (has_keys k) m, r))) (ap (λ y. get_many (get_slot y) n r) (sym q) ∙ (ap (get_many (get_slot keyed) n) (sym m) ∙ f)))
-row_indexed k from mid old new {keyed = keyed} {n = n} {r = r} (Some at) h q e t m z f =
-    let ran : Ran (get_slot keyed) (put_slot keyed) n from.total from.entries r old new at.rest.now f.slots = subst (λ w. Ran (get_slot keyed) (put_slot keyed) n w from.entries r old new at.rest.now f.slots) t (subst (λ w. Ran (get_slot keyed) (put_slot keyed) n mid.total w r old new at.rest.now f.slots) z (subst (λ w. Ran (get_slot keyed) (put_slot keyed) n mid.total mid.entries w old new at.rest.now f.slots) m f.ran)) in
-    let l = from.room in
-    let row = entries_row k from.total from.entries from.rest.now old new keyed n r at.rest.now f.slots (all_bytes from.rest.now from.typed) (omega arith) h q (sym e) ran in
-    (f.total ∙ t, subst (λ w. RanRow k from.total from.entries from.rest.now old new w at.rest.now) (sym (f.next ∙ ap (λ w. w + n) z)) row)
+row_indexed k from mid old new res h q e t m z f = grind (arith, entries_row, all_bytes)
 
 -- One more object at the end.
 entry_offsets_push : (at : ℕ) (d : Doc) (o : Obj) → entry_offsets at (d ++ o ∷ []) ≡ entry_offsets at d ++ offsets (put_slot (has_keys o.kind)) ((at + length (put_many put_obj d)) + 24) (pairs o.row)
@@ -100,13 +92,11 @@ entry_count_push (q ∷ d) o = ap (λ n. length (pairs q.row) + n) (entry_count_
 
 many_long : (keyed : Bool) (es : List Slot) → 16 * length es ≤ length (put_many (put_slot keyed) es)
 many_long keyed [] = omega arith
-many_long keyed (e ∷ es) = let h = many_long keyed es in let l = slot_long keyed e in simp length-append (omega arith)
+many_long keyed (e ∷ es) = grind (arith, length-append, many_long keyed es, slot_long)
 
 -- A row has a count and at least 16 bytes for each entry.
 row_long : (w : DocRow) → 4 + 16 * length (pairs w) ≤ length (put_row w)
-row_long (map_of m) = let h = many_long true m in simp length-append (omega arith)
-row_long (list_of l) = let h = many_long false (unkeyed l) in simp length-append (omega arith)
-row_long (text_of t) = simp length-append (omega arith)
+row_long w = grind (arith, many_long, length-append)
 
 -- In the midst of the objects: i are done with n entries, r is left.
 pub record Filling (i n total : ℕ) (bs starts firsts places r : List ℕ) (done : Doc) : Type 0 where

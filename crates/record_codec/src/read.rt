@@ -126,11 +126,13 @@ pub fn take_entry(keyed: bool, bytes: &[u8]) -> Option<(Entry<'_>, &[u8])>
     let (id, rest) = take_id(rest)?;
     let (code, rest) = take_u32(rest)?;
     let conflict = flag_at(code)?;
-    let entry = Entry {
-        key,
-        value,
-        id,
-        conflict,
-    };
-    Some((entry, rest))
+    Some((
+        Entry {
+            key,
+            value,
+            id,
+            conflict,
+        },
+        rest,
+    ))
 }
