@@ -3,10 +3,10 @@ use Rattle.std.proofs.Common.{◌≡◌, ℕ, zero, suc, ◌+◌, ◌-◌, ◌<�
 use Rattle.std.specs.Borrow.{Bor}
 use mathlib.Core.Option.{none, some}
 use Rattle.std.proofs.lemmas.List.{append-nil, drop_more, drop_all, get_or_append_left, get_or-append-add}
-use Rattle.std.proofs.lemmas.Bool.{le-leb, eq-eqb, ltb-true, and_parts, cond-true, false≢true}
+use Rattle.std.proofs.lemmas.Bool.{le-leb, eq-eqb, ltb-true, and_parts, cond-true}
 use Rattle.types.specs.Identities.{root_id}
 use Rattle.types.specs.declared.types.ObjType.{ObjType}
-use Rattle.types.specs.declared.types.ObjType.TheVariants.{Map, Table, List as Sequence, Text}
+use Rattle.types.specs.declared.types.ObjType.TheVariants.{Map, Text}
 use Rattle.document.specs.declared.view.Head.{Head}
 use Rattle.document.specs.Places.{first, nth, unkeyed, pairs, size_of, text_of?, head_of, size_told, entry_told, text_told}
 use Rattle.meaning.specs.Lists.{Every}

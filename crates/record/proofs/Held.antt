@@ -1,7 +1,6 @@
 -- The same at what an index holds.
-use Rattle.std.proofs.Common.{◌≡◌, ℕ, ◌+◌, ◌<◌, Bool, true, false, leb, List, length, get_or, drop, Some, None, Option, MatchOption, Bor, sym, ap, ◌∙◌, arith}
+use Rattle.std.proofs.Common.{◌≡◌, ℕ, ◌+◌, ◌<◌, Bool, true, false, List, get_or, drop, Some, None, Option, MatchOption, Bor, sym, ap, ◌∙◌, arith}
 use mathlib.Core.Option as maybe
-use Rattle.std.proofs.lemmas.Bool.{and_parts}
 use Rattle.document.specs.declared.view.Head.{Head}
 use Rattle.document.specs.declared.view.Entry.{Entry as Lent}
 use Rattle.document.specs.Places.{nth, size_told, entry_told}

@@ -2,7 +2,7 @@
 use Rattle.std.proofs.Common.{◌≡◌, ℕ, zero, suc, ◌+◌, ◌-◌, ◌<◌, ◌≤◌, Bool, List, [], ◌∷◌, ◌++◌, length, get_or, take, drop, set, Some, None, sym, refl, ap, ◌∙◌, append_assoc, add_assoc, arith, length-append, w8, Fits}
 use Rattle.std.proofs.lemmas.List.{append-nil, take_more_set, length_push, drop_at}
 use Rattle.meaning.specs.Lists.{Every}
-use Rattle.record_codec.specs.Codec.{Got, next, Bytes, get_many, put_many}
+use Rattle.record_codec.specs.Codec.{Got, Bytes, get_many, put_many}
 use Rattle.record_codec.specs.Layout.{Slot, put_slot}
 use Rattle.record_codec.proofs.Laws.{Law, back_many}
 use Rattle.record_codec.proofs.Records.{all_bytes}

@@ -8,8 +8,8 @@ use Rattle.types.specs.Kinds.{is_sequence}
 use Rattle.types.specs.declared.types.ObjType.{ObjType}
 use Rattle.types.specs.declared.types.ObjType.TheVariants.{Map, Table, List as Sequence, Text}
 use Rattle.document.specs.declared.view.Head.{Head}
-use Rattle.document.specs.Places.{unkeyed, pairs}
-use Rattle.meaning.specs.Rows.{map_of, list_of, text_of}
+use Rattle.document.specs.Places.{pairs}
+use Rattle.meaning.specs.Rows.{text_of}
 use Rattle.meaning.specs.Documents.{DocRow, Obj, Doc, is_text_kind}
 use Rattle.record_codec.specs.Codec.{next, Bytes, get32, put32, get_text, get_many, put_many}
 use Rattle.record_codec.specs.Layout.{Slot, get_slot, put_slot, row_of, has_keys, get_words, get_entries, get_row, put_row, get_head, put_head, object_as, get_obj, put_obj, WritableSlot, WritableObj}

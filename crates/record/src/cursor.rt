@@ -1,4 +1,5 @@
 ghost use Rattle.std.specs.Prelude.{◌≡◌, ℕ, ◌+◌, ◌-◌, ◌*◌, ◌<◌, ◌≤◌, length, slice_index};
+ghost use Rattle.types.specs.Limits.{limits};
 
 // Where reading stands in a record of `total` bytes: the bytes that are left,
 // and how many entries were read before them. An entry has 16 bytes at least.
@@ -8,14 +9,14 @@ pub struct Cursor<'a> {
     pub rest: &'a [u8],
     pub entries: usize,
     ghost typed: { (k : ℕ) → slice_index rest.now k < 256 },
-    ghost fit: { total ≤ 65536 },
+    ghost fit: { total ≤ limits.record_bytes },
     ghost room: { 16 * entries + length rest.now ≤ total },
 }
 
 impl<'a> Cursor<'a> {
     // Before the first entry.
     pub fn start(total: usize, rest: &'a [u8]) -> Cursor<'a>
-        requires fit { total ≤ 65536 }
+        requires fit { total ≤ limits.record_bytes }
         requires room { length rest.now ≤ total }
         ensures total { result.total ≡ total }
         ensures rest { result.rest.now ≡ rest.now }

@@ -5,9 +5,9 @@ use types::bounds::RECORD_BYTES;
 
 // An object has 24 bytes at least and an entry 16, so a record has no more of
 // them than this.
-pub const OBJECTS: usize = 2731;
+pub const OBJECTS: usize = RECORD_BYTES / 24 + 1;
 
-pub const ENTRIES: usize = 4096;
+pub const ENTRIES: usize = RECORD_BYTES / 16;
 
 // Where the objects and entries of a record begin: the objects' places, the
 // number of each one's first entry, and the entries' places.

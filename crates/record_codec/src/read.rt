@@ -11,7 +11,8 @@ use types::types::{ObjId, OpId};
 use types::value::{ScalarValue, Value};
 
 // Each reader takes its part from the front of the bytes and hands on the
-// rest, or finds that the bytes do not follow the layout.
+// rest, or finds that the bytes do not follow the layout. A pair and no cursor
+// that moves: contracts tell what was read and the rest.
 
 // A number of 4 bytes, highest first.
 pub fn take_u32(bytes: &[u8]) -> Option<(u32, &[u8])>
