@@ -14,9 +14,6 @@ use Rattle.node_chains.specs.declared.node.Content.TheVariants.{Map, List as Seq
 
 -- The item of an entry that holds content, with the bytes of its string; v is its value where it is a container.
 abbrev pub item_of : {U : Type 0} → Content → Bool → List ℕ → Value U → Item (Value U)
-item_of Map f s v = object v f
-item_of Sequence f s v = object v f
-item_of Text f s v = object v f
 item_of Null f s v = scalar null f
 item_of (Boolean b) f s v = scalar (boolean b) f
 item_of (Int n) f s v = scalar (int n) f
@@ -25,20 +22,14 @@ item_of (Timestamp n) f s v = scalar (timestamp n) f
 item_of (Counter n) f s v = scalar (counter n) f
 item_of Str f s v = scalar (str s) f
 item_of Bytes f s v = scalar (bytes s) f
+item_of _ f s v = object v f
 
 -- The value of a container with these units, entries and cells; a scalar has none, and an empty text stands for it.
 abbrev pub container_of : {U : Type 0} → Content → List U → Entries U → Cells U → Value U
 container_of Map us es cs = map_v es
 container_of Sequence us es cs = list_v cs
 container_of Text us es cs = text_v us
-container_of Null us es cs = text_v []
-container_of (Boolean b) us es cs = text_v []
-container_of (Int n) us es cs = text_v []
-container_of (Uint n) us es cs = text_v []
-container_of (Timestamp n) us es cs = text_v []
-container_of (Counter n) us es cs = text_v []
-container_of Str us es cs = text_v []
-container_of Bytes us es cs = text_v []
+container_of _ us es cs = text_v []
 
 -- A cell in front of others.
 abbrev pub cell : {U : Type 0} → Item (Value U) → Cells U → Cells U
@@ -76,14 +67,7 @@ abbrev pub is_container : Content → Bool
 is_container Map = true
 is_container Sequence = true
 is_container Text = true
-is_container Null = false
-is_container (Boolean b) = false
-is_container (Int n) = false
-is_container (Uint n) = false
-is_container (Timestamp n) = false
-is_container (Counter n) = false
-is_container Str = false
-is_container Bytes = false
+is_container _ = false
 
 -- Position p has the key k among trees, and none before it has.
 pub record KeyAt {U : Type 0} (d : Datum U) (k : Key) (p : ℕ) (ts : List (Tree (Datum U))) : Type 0 where

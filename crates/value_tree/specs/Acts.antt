@@ -16,39 +16,29 @@ use Rattle.value_tree.specs.Entries.{placed_tree, put_over, KeyGone}
 -- Actions that no list takes.
 abbrev pub not_for_list : {U : Type 0} → Action U → Bool
 not_for_list (put_map k e) = true
-not_for_list (put_seq i e) = false
-not_for_list (insert i es) = false
 not_for_list (splice_text i ys) = true
 not_for_list (increment (key k) n) = true
-not_for_list (increment (pos i) n) = false
 not_for_list (conflict (key k)) = true
-not_for_list (conflict (pos i)) = false
 not_for_list (delete_map k) = true
-not_for_list (delete_seq i n) = false
+not_for_list _ = false
 
 -- Actions that no text takes.
 abbrev pub not_for_text : {U : Type 0} → Action U → Bool
-not_for_text (put_map k e) = true
 not_for_text (put_seq i e) = false
 not_for_text (insert i es) = false
 not_for_text (splice_text i ys) = false
-not_for_text (increment p n) = true
-not_for_text (conflict p) = true
-not_for_text (delete_map k) = true
 not_for_text (delete_seq i n) = false
+not_for_text _ = true
 
 -- Actions that no map takes.
 abbrev pub not_for_map : {U : Type 0} → Action U → Bool
-not_for_map (put_map k e) = false
 not_for_map (put_seq i e) = true
 not_for_map (insert i es) = true
 not_for_map (splice_text i ys) = true
-not_for_map (increment (key k) n) = false
 not_for_map (increment (pos i) n) = true
-not_for_map (conflict (key k)) = false
 not_for_map (conflict (pos i)) = true
-not_for_map (delete_map k) = false
 not_for_map (delete_seq i n) = true
+not_for_map _ = false
 
 module _ {U : Type 0} (units : List ℕ → List U) where
   -- An action on the value of a tree is the edit g of the tree.

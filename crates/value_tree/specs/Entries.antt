@@ -35,14 +35,9 @@ content_in (object_of k) = kind_in k
 
 -- The bytes of a string or byte string.
 abbrev pub scalar_string : Scalar → List ℕ
-scalar_string null = []
-scalar_string (boolean b) = []
-scalar_string (int n) = []
-scalar_string (uint n) = []
-scalar_string (timestamp n) = []
-scalar_string (counter n) = []
 scalar_string (str s) = s
 scalar_string (bytes s) = s
+scalar_string _ = []
 
 -- Those of what is placed; an object has none.
 abbrev pub string_in : Content → List ℕ

@@ -7,7 +7,10 @@ use super::Chains;
 use crate::node::{Item, Node};
 use packed_rows::rows::{row_of, splice_row};
 
-// The same over the slices: between the two splices the chains are not in order.
+// How deep below the root a node can lie.
+const DEPTH: usize = 17;
+
+// Makes the child k of a the child `at` of b. Over the slices: between the two splices the chains are not in order.
 fn relink(
     nodes: &mut [Node],
     starts: &mut [u32],
@@ -131,7 +134,7 @@ impl<'m> Chains<'m> {
         ensures sizes { SameSizes self.old self.new }
         ensures emptied { Empties c 17 self.old self.new }
     {
-        self.free_children(c, 17);
+        self.free_children(c, DEPTH);
     }
 
     // Takes the child k of o away, with all under it.
