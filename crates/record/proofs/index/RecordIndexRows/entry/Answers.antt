@@ -1,22 +1,14 @@
 use Rattle.std.proofs.Common.{◌+◌, get_or, sym, ◌∙◌, arith, rules}
 use Rattle.std.proofs.lemmas.List.{take_rest}
 use Rattle.record.proofs.Scanning.{text_is, keys_are}
-use Rattle.record.proofs.Finding.{text_entries, no_entry_lem, size_is}
-use Rattle.record.proofs.Held.{bytes_are, there, unread, told}
+use Rattle.record.proofs.Held.{text_entry, past_count, there, unread, told}
 use Rattle.record.proofs.index.RecordIndexRows.entry.Goals as goal
 
 pub returns-then-eq : goal.returns-then-eq
-returns-then-eq c =
-    let s = c.args.self.now in
-    sym (text_entries s.bytes.now c.args.i (bytes_are s) s.said c.in_ok-head.head c.in_ok-head.row.now c.in_ok-head.ensures
-    c.args.n (text_is c.in_ok-head.head.kind c.eq.result c.eq.ensures ∙ c.if-eq.true))
+returns-then-eq c = sym (text_entry c.args.self.now c.in_ok-head.ensures c.args.n (text_is c.in_ok-head.head.kind c.eq.result c.eq.ensures ∙ c.if-eq.true))
 
 pub returns-then-n-count : goal.returns-then-n-count
-returns-then-n-count c =
-    let s = c.args.self.now in
-    let h = c.in_ok-head.head in let r = c.in_ok-head.row.now in let f = c.in_ok-head.ensures in
-    let z = size_is s.bytes.now c.args.i (bytes_are s) s.said h r f c.in_ok-count.count c.in_ok-count.field-0-1.now c.in_ok-count.ensures in
-    sym (no_entry_lem s.bytes.now c.args.i (bytes_are s) s.said h r f (text_is h.kind c.eq.result c.eq.ensures ∙ c.if-eq.false) c.args.n (omega (arith, z, c.if-n-count.true)))
+returns-then-n-count c = sym (past_count c.args.self.now c.in_ok-head.ensures c.args.n (text_is c.in_ok-head.head.kind c.eq.result c.eq.ensures ∙ c.if-eq.false) c.in_ok-count.ensures c.if-n-count.true)
 
 pub offset_bounds-self-i : goal.offset_bounds-self-i
 offset_bounds-self-i c = omega (arith, (there c.args.self.now c.args.n c.in_ok-head.ensures (text_is c.in_ok-head.head.kind c.eq.result c.eq.ensures ∙ c.if-eq.false) c.in_ok-count.ensures c.if-n-count.false).firsts_room)
