@@ -53,6 +53,6 @@ pub record Edited {U : Type 0} (o : ℕ) (g : Tree (Datum U) → Tree (Datum U))
   pub changed : Changed (kids m) o g (tree_of m) (tree_of m2)
 
 -- The tree stays as it was.
-pub record Kept {U : Type 0} (m m2 : Tables U) : Type 0 where
+pub record SameTree {U : Type 0} (m m2 : Tables U) : Type 0 where
   pub room : SameRoom m m2
   pub same : tree_of m2 ≡ tree_of m

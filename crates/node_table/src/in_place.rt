@@ -4,7 +4,7 @@ ghost use Rattle.node_chains.specs.Tree.{relabel, Under};
 ghost use Rattle.node_chains.specs.Chains.{item_at};
 ghost use Rattle.node_table.specs.Kinds.{is_text, raising, raised_content};
 ghost use Rattle.node_table.specs.Held.{flagged, raised, respelled};
-ghost use Rattle.node_table.specs.Edits.{nodes_in, kids, units_at, units_used, Edited, Kept};
+ghost use Rattle.node_table.specs.Edits.{nodes_in, kids, units_at, units_used, Edited, SameTree};
 
 use crate::tables::Tables;
 use node_chains::node::{Content, Item};
@@ -46,7 +46,7 @@ impl<'m, U: Copy> Tables<'m, U> {
         requires used { Under (kids self.old) 0 c }
         requires below { 0 < c }
         ensures answer { result ≡ raising by (item_at (nodes_in self.old) c).content }
-        ensures effect { MatchResult result (λ _. Edited c (relabel (raised by)) self.old self.new) (λ _. Kept self.old self.new) }
+        ensures effect { MatchResult result (λ _. Edited c (relabel (raised by)) self.old self.new) (λ _. SameTree self.old self.new) }
     {
         let item = self.item(c);
         let content = raise(item.content, by)?;
