@@ -3,6 +3,8 @@ use Rattle.std.proofs.Common.{◌≡◌, ℕ, zero, suc, ◌+◌, ◌-◌, ◌<�
 use Rattle.std.proofs.lemmas.List.{take-append-drop, drop_more, get_or-take, get_or_default, length-take-le}
 use Rattle.std.proofs.lemmas.List.Edits.{length-insert, get_or-insert_below, get_or-insert_at, get_or-insert_above, length-remove, get_or-remove_below, get_or-remove_above}
 use Rattle.std.proofs.lemmas.Bool.{cases_lt, cases_eq, true≢false}
+use Rattle.std.proofs.Math.Bool.{or_assoc, and-true}
+use Rattle.std.specs.Cmp.{Equal-is}
 use Rattle.std.specs.List.{insert, remove}
 use Rattle.std.specs.Ordering.{is_lt, is_eq, ordering_reverse}
 use Rattle.sequence_tree.specs.Lists.{spliced}
@@ -17,19 +19,10 @@ spliced_one xs i x = let e : i + 0 ≡ i = omega arith in ap (λ k. take i xs ++
 spliced_none : {X : Type 0} (xs : List X) (i : ℕ) → spliced xs i 1 [] ≡ remove xs i
 spliced_none xs i = ap (λ k. take i xs ++ drop k xs) {x = i + 1} {y = suc i} (omega arith)
 
-or_assoc : (a b c : Bool) → (a || (b || c)) ≡ ((a || b) || c)
-or_assoc true b c = refl
-or_assoc false b c = refl
-
 or_swap : (a b c : Bool) → (a || (b || c)) ≡ (b || (a || c))
 or_swap true true c = refl
 or_swap true false c = refl
 or_swap false b c = refl
-
-is_equal : (r : Ordering) → is_eq r ≡ true → r ≡ Equal
-is_equal Less h = absurd (true≢false (sym h))
-is_equal Equal h = refl
-is_equal Greater h = absurd (true≢false (sym h))
 
 module _ {X : Type 0} (o : Order X) (x : X) where
   -- how far the items go that are less
@@ -140,7 +133,7 @@ module _ {X : Type 0} (o : Order X) where
 
   has_append : (y : X) (xs ys : List X) → has o.compare y (xs ++ ys) ≡ (has o.compare y xs || has o.compare y ys)
   has_append y [] ys = refl
-  has_append y (z ∷ zs) ys = ap (λ b. is_eq (o.compare z y) || b) (has_append y zs ys) ∙ or_assoc (is_eq (o.compare z y)) (has o.compare y zs) (has o.compare y ys)
+  has_append y (z ∷ zs) ys = ap (λ b. is_eq (o.compare z y) || b) (has_append y zs ys) ∙ sym (or_assoc (is_eq (o.compare z y)) (has o.compare y zs) (has o.compare y ys))
 
   pub with_one : (x : X) (xs : List X) (i : ℕ) → With o.compare x xs (spliced xs i 0 (x ∷ []))
   with_one x xs i y =
@@ -160,19 +153,15 @@ module _ {X : Type 0} (o : Order X) where
   with_itself x xs h y = go (is_eq (o.compare x y)) refl
     where
       go : (b : Bool) → is_eq (o.compare x y) ≡ b → has o.compare y xs ≡ (b || has o.compare y xs)
-      go true e = sym (has_alike x y xs (is_equal (o.compare x y) e)) ∙ h
+      go true e = sym (has_alike x y xs ((Equal-is (o.compare x y)).0 e)) ∙ h
       go false e = refl
 
   pub without_itself : (x : X) (xs : List X) → has o.compare x xs ≡ false → Without o.compare x xs xs
   without_itself x xs h y = go (is_eq (o.compare x y)) refl
     where
-      and_true : (b : Bool) → b ≡ (b && true)
-      and_true true = refl
-      and_true false = refl
-
       go : (b : Bool) → is_eq (o.compare x y) ≡ b → has o.compare y xs ≡ (has o.compare y xs && not b)
-      go true e = let f : has o.compare y xs ≡ false = sym (has_alike x y xs (is_equal (o.compare x y) e)) ∙ h in rw f
-      go false e = and_true (has o.compare y xs)
+      go true e = let f : has o.compare y xs ≡ false = sym (has_alike x y xs ((Equal-is (o.compare x y)).0 e)) ∙ h in rw f
+      go false e = sym (and-true (has o.compare y xs))
 
   none_less : (y : X) (xs : List X) → AllLess o y xs (length xs) → has o.compare y xs ≡ false
   none_less y [] a = refl
@@ -213,7 +202,7 @@ module _ {X : Type 0} (o : Order X) where
         go : (b : Bool) → is_eq (o.compare x y) ≡ b
             → (has o.compare y (take i xs) || has o.compare y (drop (i + 1) xs)) ≡ ((has o.compare y (take i xs) || (is_eq (o.compare x y) || has o.compare y (drop (i + 1) xs))) && not (is_eq (o.compare x y)))
         go true e =
-            let q : o.compare z y ≡ Equal = o.alike z x y same ∙ is_equal (o.compare x y) e in
+            let q : o.compare z y ≡ Equal = o.alike z x y same ∙ (Equal-is (o.compare x y)).0 e in
             rw (front_none y q, rest_none y q, e)
         go false e = rw e (kept (has o.compare y (take i xs)) (has o.compare y (drop (i + 1) xs)))
 

@@ -16,7 +16,8 @@ pub fn find<O: TotalOrder>(order: &O, items: &[O::Item], x: O::Item) -> Result<u
     items.binary_search_by(|item| order.compare(*item, x))
 }
 
-// How many of the places, which each call is lent, an ordered set has in use.
+// How many of the places an ordered set has in use. Each call is lent the places and the order: an
+// order may borrow keys that the caller changes between two calls, so no set can hold it.
 #[derive(Clone, Copy)]
 pub struct OrderedSet {
     len: usize,
