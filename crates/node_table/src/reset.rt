@@ -96,6 +96,7 @@ impl<'m, U: Copy> Tables<'m, U> {
         ensures bare { (i : ℕ) → (i ≢ free_row result.chains) → kids result i ≡ [] }
         ensures room { length (kids result (free_row result.chains)) ≡ length chain.old }
         ensures sizes { (length (nodes_in result) ≡ length nodes.old) × (length result.units.now ≡ length units.old) }
+        ensures chain { length result.chains.chain.now ≡ length chain.old }
     {
         let mut bytes = 0;
         let free = nodes.len() - 1;

@@ -116,7 +116,7 @@ module _ {U : Type 0} {units : List ℕ → List U} {a : Action U} {g : Tree (Da
     -- done, within the bound of bytes; entries and units have places at all only within theirs
     pub did : {m2 : Tables U} → Edited o g m m2 → Here m o (λ t. m.bytes + weight (g t) bytes_in ≤ 32768 + weight t bytes_in) → Acted units a o m m2 (Ok tt)
     did {m2} E h =
-        let R : Roomy m2 = record { nodes = E.room.chains.nodes ∙ G.room.nodes; units = E.room.units ∙ G.room.units } in
+        let R : Roomy m2 = record { nodes = E.room.chains.nodes ∙ G.room.nodes; chain = E.room.chains.chain ∙ G.room.chain; units = E.room.units ∙ G.room.units } in
         let w = way_of m A.used in
         let e = E.changed w.0 w.1.steps w.1.reaches in
         let P : Proper (tree_of m2) = subst Proper (sym e) (proper_after w.0 w.1) in

@@ -13,6 +13,7 @@ shown m = value_of (tree_of m)
 -- There are places for as many entries and units as a value may have.
 pub record Roomy {U : Type 0} (m : Tables U) : Type 0 where
   pub nodes : length (nodes_in m) ≡ 4098
+  pub chain : length m.chains.chain.now ≡ 4096
   pub units : length m.units.now ≡ 32768
 
 -- The tables hold a value: they have its room, the tree stands for a value, and its bytes keep their bound.

@@ -9,7 +9,7 @@ returns g c =
     let e = c.new.ensures.empty in
     record {
       good = record {
-        room = record { nodes = omega (arith, c.new.ensures.sizes.0); units = omega (arith, c.new.ensures.sizes.1) };
+        room = record { nodes = omega (arith, c.new.ensures.sizes.0); chain = omega (arith, c.new.ensures.chain); units = omega (arith, c.new.ensures.sizes.1) };
         proper = subst Proper (sym e) proper_root;
         within = omega (arith, no_bytes c.new.result e);
       };
