@@ -52,5 +52,8 @@ fn count_points(s: &str) -> usize
 fn count_leads(bytes: &[u8]) -> usize
     ensures { result ≡ count_by leads bytes.now }
 {
-    bytes.iter().filter(|b| !matches!(**b, 0x80..=0xBF)).count()
+    bytes
+        .iter()
+        .map(|b| usize::from(!matches!(*b, 0x80..=0xBF)))
+        .sum()
 }
