@@ -33,7 +33,7 @@ impl<R: Rows + Copy> Clone for Checked<R> {
 impl<R: Rows + Copy> Copy for Checked<R> {}
 
 impl<R: Rows> Checked<R> {
-    // For who knows that the rows keep the laws.
+    // For a caller who knows that the rows keep the laws.
     pub fn new(rows: R) -> Checked<R>
         requires { lawful (R.shaped rows).doc ≡ true }
         ensures { result.rows ≡ rows }

@@ -22,8 +22,7 @@ fn belongs(head: Head, kind: ObjType, owner: ObjId) -> bool
     head.kind == kind && head.parent == owner
 }
 
-// An object of rows that have a mark for each of theirs: its row names
-// others.
+// An object whose row names others, in rows for which there are marks enough.
 #[derive(Drop)]
 struct Owner<'a, R: Rows> {
     rows: Rising<'a, R>,
@@ -104,7 +103,7 @@ fn check_names_at<R: Rows>(rows: Rising<'_, R>, i: usize, marks: &mut Marks) -> 
 }
 
 // Whether every object entry names an object of its kind, in its parent's
-// row, and none twice. A loop, as in a row.
+// row, and none twice. A loop, for the reason of `Owner::check`.
 pub fn check_all_names<R: Rows>(rows: Rising<'_, R>) -> bool
     requires { length (R.shaped rows.rows.now).doc ≤ 1024 }
     ensures { result ≡ every (refs_ok (R.shaped rows.entry.rows.now).doc) (R.shaped rows.entry.rows.now).doc }

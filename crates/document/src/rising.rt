@@ -33,7 +33,7 @@ impl<R: Rows> Clone for Rising<'_, R> {
 impl<R: Rows> Copy for Rising<'_, R> {}
 
 impl<'a, R: Rows> Rising<'a, R> {
-    // For who knows that the identities rise.
+    // For a caller who knows that the identities rise.
     pub fn new(rows: &'a R) -> Rising<'a, R>
         requires { rises (R.shaped rows.now).doc ≡ true }
         ensures { result.rows.now ≡ rows.now }

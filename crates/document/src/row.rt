@@ -13,7 +13,9 @@ use text_value::is_utf8;
 use types::bounds::{KEY_BYTES, SCALAR_BYTES};
 use types::value::{ScalarValue, Value};
 
-// Whether a string is UTF-8; bytes may be anything.
+// Whether a string is UTF-8; bytes may be anything. The crate `patch_call`
+// has the same test: below both, `types` has the values, `text_value` the
+// test of UTF-8, and `meaning`, which has both, no code.
 fn is_text(value: Value) -> bool
     ensures { result ≡ well_spelt (content_seen value.entry) }
 {
@@ -34,7 +36,8 @@ fn is_good(e: Entry) -> bool
         && is_text(e.value)
 }
 
-// Keys compare by bytes.
+// Keys compare by bytes. Under a name, since its contract says which order of
+// keys that is.
 fn key_before(a: &[u8], b: &[u8]) -> bool
     ensures { result ≡ is_gt (compare_keys b.now a.now) }
 {

@@ -7,7 +7,7 @@ use crate::node::Node;
 mod calls;
 
 // The children of each node are a row of `chain`, which begins where `starts` says; the row of the last
-// node has the free places.
+// node has the free places. All are lent by the caller, who bounds the memory.
 #[derive(Drop)]
 pub struct Chains<'m> {
     pub nodes: &'m mut [Node],

@@ -53,7 +53,7 @@ impl Item {
     };
 }
 
-// An entry, with the place of its parent and its depth below the root.
+// An entry, with the place of its parent and its depth below the root. Places and no boxes: the memory is lent.
 #[derive(Clone, Copy)]
 pub struct Node {
     pub item: Item,

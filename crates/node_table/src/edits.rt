@@ -67,7 +67,7 @@ fn wipe<U: Copy>(
     }
 }
 
-// What c holds gives way to new content, with no children and no units; its key stays. Over the parts as well.
+// What c holds gives way to new content, with no children and no units; its key stays. Over the parts, too.
 fn refill<U: Copy>(
     chains: &mut Chains,
     begins: &mut [u32],

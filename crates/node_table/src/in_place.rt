@@ -18,9 +18,7 @@ fn raise(content: Content, by: i64) -> Result<Content, Refusal>
     let Content::Counter(x) = content else {
         return Err(Refusal::BadIncrement);
     };
-    let Some(sum) = x.checked_add(by) else {
-        return Err(Refusal::CounterOverflow);
-    };
+    let sum = x.checked_add(by).ok_or(Refusal::CounterOverflow)?;
     Ok(Content::Counter(sum))
 }
 

@@ -53,7 +53,7 @@ fn fill_nodes(nodes: &mut [Node], f: usize)
     };
 }
 
-// An empty map at the root; all other places are free.
+// An empty map at the root; all other places are free. Over the slices: nothing is in order before it.
 pub fn reset<U: Copy>(
     nodes: &mut [Node],
     starts: &mut [u32],

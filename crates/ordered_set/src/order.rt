@@ -4,7 +4,7 @@ ghost use Rattle.std.specs.Cmp.{IsTotalOrder};
 
 use std::cmp::Ordering;
 
-// A total order on items, whose value may hold what the items stand for.
+// A total order on items. A value of such a type may hold what the items stand for.
 pub trait TotalOrder {
     type Item: Copy;
 

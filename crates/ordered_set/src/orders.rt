@@ -54,7 +54,8 @@ pub fn compare_keys(a: &[u8], b: &[u8]) -> Ordering
 
 // Keys that lie in packed rows of bytes: an item is the number of its row. The number SOUGHT
 // stands for a key that need not be in a row, so that it can be looked for; a number, since the
-// places of a set are numbers of 32 bits, and an enum would take twice as much.
+// places of a set are numbers of 32 bits, and an enum would take twice as much. The slices are the
+// caller's tables, as they lie.
 #[derive(Clone, Copy)]
 pub struct KeyOrder<'a> {
     pub starts: &'a [u32],

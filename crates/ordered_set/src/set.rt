@@ -17,7 +17,8 @@ pub fn find<O: TotalOrder>(order: &O, items: &[O::Item], x: O::Item) -> Result<u
 }
 
 // How many of the places an ordered set has in use. Each call is lent the places and the order: an
-// order may borrow keys that the caller changes between two calls, so no set can hold it.
+// order may borrow keys that the caller changes between two calls, so no set can hold it, nor then
+// hold that its places rise in it.
 #[derive(Clone, Copy)]
 pub struct OrderedSet {
     len: usize,

@@ -20,6 +20,7 @@ use Rattle.patch.specs.Told.{Parts, plus, block, rest, patch_told, told, wide_fl
 use Rattle.sequence_tree.specs.Sequences.{held}
 use Rattle.patch.specs.declared.memory.PatchMemory.{PatchMemory}
 use Rattle.patch.specs.Sound.{newest}
+use Rattle.patch.specs.Tails.{with_action}
 use Rattle.patch.specs.Held.{parts_of, held_of}
 use Rattle.patch.proofs.Tails.{last_append, front_append, front_last}
 
@@ -85,6 +86,12 @@ module _ {U : Type 0} where
         wide = eqb-true _ _ v.0;
         short = leb-true _ _ v.1;
       }
+
+  -- another row for the same content
+  pub fits_row_lem : (r : PatchRow) (a : ActionRow) (b : Parts U) → fits_row r b ≡ true → values_in a ≡ values_in r.action → units_in a ≡ units_in r.action → wides_in a ≡ wides_in r.action → ((vs : List ValueRow) → action_len a vs ≡ action_len r.action vs) → Fits (with_action r a) b
+  fits_row_lem r a b h v u w n =
+      let k = fits_parts r b h in
+      record { steps = k.steps; values = k.values ∙ sym v; units = k.units ∙ sym u; bytes = k.bytes; all = ap (λ m. steps_len b.steps + m) (n b.values) ∙ k.all; wide = k.wide ∙ sym w; short = k.short }
 
   pub fits_from : (r : PatchRow) (b : Parts U) → Fits r b → fits_row r b ≡ true
   fits_from r b h =

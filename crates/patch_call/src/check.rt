@@ -35,8 +35,8 @@ fn is_bad(p: Prop) -> bool
     matches!(p, Prop::Map(key) if !is_utf8(key))
 }
 
-// Whether a string is UTF-8; bytes may be anything. The crate document tests its values so too: below both, the test
-// would need a definition of its own, which each would have to prove equal to its own view of a value.
+// Whether a string is UTF-8; bytes may be anything. The crate `document` has the same test: below both, `types` has
+// the values, `text_value` the test of UTF-8, and `meaning`, which has both, no code.
 fn is_text(value: Value) -> bool
     ensures { result ≡ well_spelt (content_seen value.entry) }
 {

@@ -36,7 +36,8 @@ impl<'a> Cursor<'a> {
         (self.total - self.rest.len()) as u32
     }
 
-    // The same, over no more bytes.
+    // The same, over no more bytes. By its fields: `..self` is not for a
+    // struct with ghost fields.
     pub fn over(self, rest: &'a [u8]) -> Cursor<'a>
         requires { length rest.now ≤ length self.rest.now }
         ensures total { result.total ≡ self.entry.total }

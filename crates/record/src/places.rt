@@ -10,7 +10,8 @@ pub const OBJECTS: usize = RECORD_BYTES / 24 + 1;
 pub const ENTRIES: usize = RECORD_BYTES / 16;
 
 // Where the objects and entries of a record begin: the objects' places, the
-// number of each one's first entry, and the entries' places.
+// number of each one's first entry, and the entries' places. Of fixed size:
+// no heap is used.
 #[derive(Clone, Copy)]
 pub struct Places {
     pub starts: [u32; OBJECTS],

@@ -31,6 +31,7 @@ fn unhex(heap: Global, text: &[u8]) -> Result<Vec<u8>, AllocError> {
     Ok(bytes)
 }
 
+// By hand: `to_digit` takes capitals too, which are 0 here.
 fn digit(c: u8) -> u8 {
     match c {
         b'0'..=b'9' => c - b'0',

@@ -3,8 +3,8 @@ ghost use Rattle.record_codec.specs.Layout.{kind_at, flag_at};
 
 use types::types::ObjType;
 
-// What a code of the layout stands for, where the type is no type of this
-// crate, so that `TryFrom` is not for it.
+// What a code of the layout stands for. `TryFrom` cannot be implemented here,
+// since the types are another crate's.
 
 pub fn kind_at(code: u32) -> Option<ObjType>
     ensures { result ≡ kind_at code }

@@ -11,8 +11,9 @@ use types::types::{ObjId, OpId};
 use types::value::{ScalarValue, Value};
 
 // Each reader takes its part from the front of the bytes and hands on the
-// rest, or finds that the bytes do not follow the layout. A pair and no cursor
-// that moves: contracts tell what was read and the rest.
+// rest, or finds that the bytes do not follow the layout. A pair, and no
+// cursor: a contract tells what was read and what is left, which a cursor
+// would hold just so.
 
 // A number of 4 bytes, highest first.
 pub fn take_u32(bytes: &[u8]) -> Option<(u32, &[u8])>
@@ -22,7 +23,8 @@ pub fn take_u32(bytes: &[u8]) -> Option<(u32, &[u8])>
     Some((u32::from_be_bytes(*number), rest))
 }
 
-// A number of 8 bytes, highest first.
+// A number of 8 bytes, highest first. Not generic in the number:
+// `from_be_bytes` is each type's own, and no trait of the library has it.
 fn take_u64(bytes: &[u8]) -> Option<(u64, &[u8])>
     ensures { saw itself result ≡ get64 bytes.now }
 {

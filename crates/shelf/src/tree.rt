@@ -76,6 +76,8 @@ fn show_value(rt: &HostRuntime, value: Value<'_>, id: OpId) -> anyhow::Result<()
     }
 }
 
+// By hand: the bytes of a string are printed as text, which the crate of
+// values does not know.
 fn show_scalar(rt: &HostRuntime, scalar: ScalarValue<'_>) -> anyhow::Result<()> {
     match scalar {
         ScalarValue::Null => print!(rt; "null")?,

@@ -45,13 +45,19 @@ module _ (os : List ObjectRow) (es : List EntryRow) (bs : List ℕ) (ok : inside
   both : (every (object_lies (length es) (length bs)) os ≡ true) × (every (entry_lies (length bs)) es ≡ true)
   both = and_parts (every (object_lies (length es) (length bs)) os) (every (entry_lies (length bs)) es) ok
 
+  pub object_lies_lem : (i : ℕ) → i < length os → object_lies (length es) (length bs) (get_or os i no_row) ≡ true
+  object_lies_lem i l = all_at (object_lies (length es) (length bs)) os i no_row both.0 l
+
+  pub entry_lies_lem : (i : ℕ) → i < length es → entry_lies (length bs) (get_or es i no_entry) ≡ true
+  entry_lies_lem i l = all_at (entry_lies (length bs)) es i no_entry both.1 l
+
   pub object_inside : (i : ℕ) (o : ObjectRow) → Stands os i o → object_lies (length es) (length bs) o ≡ true
-  object_inside i o h = subst (λ o. object_lies (length es) (length bs) o ≡ true) (sym (h.1 no_row)) (all_at (object_lies (length es) (length bs)) os i no_row both.0 h.0)
+  object_inside i o h = subst (λ o. object_lies (length es) (length bs) o ≡ true) (sym (h.1 no_row)) (object_lies_lem i h.0)
 
   pub entry_inside : (w : Window) (n : ℕ) (e : EntryRow) → w.from + w.len ≤ length es → Stands (part w es) n e → entry_lies (length bs) e ≡ true
   entry_inside w n e f h =
       let l : n < w.len = omega (arith, h.0, part_length w es f) in
-      subst (λ e. entry_lies (length bs) e ≡ true) (sym (h.1 no_entry ∙ part_at w es n no_entry l)) (all_at (entry_lies (length bs)) es (w.from + n) no_entry both.1 (omega arith))
+      subst (λ e. entry_lies (length bs) e ≡ true) (sym (h.1 no_entry ∙ part_at w es n no_entry l)) (entry_lies_lem (w.from + n) (omega arith))
 
 -- objects
 pub docs_length : (os : List ObjectRow) (es : List EntryRow) (bs : List ℕ) → length (doc_of os es bs) ≡ length os

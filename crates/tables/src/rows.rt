@@ -6,7 +6,8 @@ use crate::table::{EntryRow, ObjectRow};
 use crate::windows::{entries_lie, objects_lie};
 use types::error::Refusal;
 
-// Tables whose windows lie inside, before anything is known of the laws.
+// Tables whose windows lie inside, before anything is known of the laws. The
+// slices are the caller's, as a table of a file has them.
 #[derive(Clone, Copy)]
 pub struct TableRows<'a> {
     pub objects: &'a [ObjectRow],

@@ -70,7 +70,7 @@ abbrev pub code_points : List ℕ → List ℕ
 code_points [] = []
 code_points (b ∷ bs) = chars_after (continuation_len b) (lead_bits b) bs
 
--- Whether an octet is none that follows a lead octet, 10xxxxxx.
+-- Whether an octet is not of the form 10xxxxxx, which only follows a lead octet.
 abbrev pub leads : ℕ → Bool
 leads b = not (nat_le 0x80 b && nat_le b 0xBF)
 

@@ -30,8 +30,8 @@ impl TextValue for CodePoint {
         if !Self::fits(s, out.len()) {
             return None;
         }
-        // Counted by hand: the count is the answer, and of places that an adapter of `iter_mut` lends
-        // a proof knows nothing afterwards.
+        // Counted by hand: the count is the answer, of places that `zip` lends a proof knows nothing
+        // afterwards, and a second pass for the count would be slower.
         let mut n = 0;
         for c in s.chars() {
             out[n] = c as u32;

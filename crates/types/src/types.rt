@@ -49,6 +49,8 @@ impl ObjId {
         self == ObjId::root()
     }
 
+    // The same order. Both are the derived order, under the name that
+    // contracts cite.
     pub fn compare(self, other: ObjId) -> Ordering
         ensures { result ≡ compare_ids self.0 other.0 }
     {
