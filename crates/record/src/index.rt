@@ -118,6 +118,15 @@ impl Rows for RecordIndex<'_> {
         Some(entry)
     }
 
+    #[tactic(
+        auto,
+        using(
+            crate::proofs::Held::text_none,
+            crate::proofs::Held::text_some,
+            crate::proofs::Held::text_unread,
+            crate::proofs::Scanning::text_is
+        )
+    )]
     fn text(&self, i: usize) -> Option<&[u8]> {
         let (head, row) = self.row_at(i)?;
         if head.kind != ObjType::Text {
