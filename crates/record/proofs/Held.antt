@@ -1,18 +1,16 @@
 -- The same at what an index holds.
-use Rattle.std.proofs.Common.{◌≡◌, ℕ, ◌+◌, ◌<◌, ◌≤◌, length, Bool, true, false, List, get_or, drop, Some, None, Option, MatchOption, Bor, sym, ap, ◌∙◌, arith}
+use Rattle.std.proofs.Common.{◌≡◌, ℕ, ◌+◌, ◌<◌, ◌≤◌, length, Bool, true, false, List, get_or, drop, Some, None, Option, Bor, sym, ap, ◌∙◌, arith}
 use mathlib.Core.Option as maybe
 use Rattle.document.specs.declared.view.Head.{Head}
-use Rattle.document.specs.declared.view.Entry.{Entry as Lent}
 use Rattle.document.specs.Places.{nth, size_told, entry_told, text_told}
-use Rattle.document.specs.Views.{entry_seen}
 use Rattle.meaning.specs.Documents.{is_text_kind}
 use Rattle.record_codec.specs.Codec.{Got, Bytes, get32, get_text}
-use Rattle.record_codec.specs.Layout.{Slot, has_keys, doc_of, get_slot, get_head}
+use Rattle.record_codec.specs.Layout.{has_keys, doc_of, get_slot, get_head}
 use Rattle.record_codec.specs.Seen.{saw, itself}
 use Rattle.record_codec.proofs.Laws.{val_is}
 use Rattle.record_codec.proofs.Records.{all_bytes}
 use Rattle.record.specs.declared.index.RecordIndex.{RecordIndex}
-use Rattle.record.specs.Reading.{Found, FoundAt}
+use Rattle.record.specs.Reading.{Found, FoundAt, EntryFollows}
 use Rattle.record.proofs.Finding.{starts_room, none_there, head_there, found_at, no_text, text_there, text_entries, no_entry_lem, no_size, size_told_lem, SlotRead, slot_there, size_is, entries_are, kind_is}
 
 module _ (s : RecordIndex) where
@@ -65,16 +63,13 @@ module _ (s : RecordIndex) where
     reads : (keyed : Bool) (x : List ℕ) → keyed ≡ has_keys h.kind → x ≡ drop at s.bytes.now → get_slot keyed x ≡ Some (there.slot, there.more)
     reads keyed x k d = ap (λ b. get_slot b x) (k ∙ ap has_keys (kind_is s.bytes.now i bytes_are s.said h rest f)) ∙ (ap (get_slot (has_keys f.object.kind)) d ∙ there.got)
 
-    pub unread : (keyed : Bool) (x : List ℕ) → keyed ≡ has_keys h.kind → x ≡ drop at s.bytes.now → ◌≡◌ {A = Got Slot} None (get_slot keyed x) → ⊥
-    unread keyed x k d g = let w = g ∙ reads keyed x k d in absurd cc
+    pub entry_follows : (keyed : Bool) (x : List ℕ) → keyed ≡ has_keys h.kind → x ≡ drop at s.bytes.now → EntryFollows (doc_of s.bytes.now) i n keyed x
+    entry_follows keyed x k d = record { slot = there.slot; more = there.more; told = ap (λ o. entry_told o n) f.there ∙ there.told; got = reads keyed x k d }
 
-    pub told : (keyed : Bool) (x : List ℕ) (y : Lent) (t : List ℕ) → keyed ≡ has_keys h.kind → x ≡ drop at s.bytes.now → ◌≡◌ {A = Got Slot} (Some (entry_seen y, t)) (get_slot keyed x) → ◌≡◌ {A = maybe.Option Slot} (maybe.some (entry_seen y)) (entry_told (nth (doc_of s.bytes.now) i) n)
-    told keyed x y t k d g =
-        ap {B = maybe.Option Slot} (λ a. maybe.some a) (val_is (entry_seen y) there.slot t there.more (g ∙ reads keyed x k d))
-        ∙ (sym there.told ∙ ap (λ o. entry_told o n) (sym f.there))
+  -- The size of a row.
+  module _ {i : ℕ} {h : Head} {rest : List ℕ} (f : Found (doc_of s.bytes.now) i h rest) where
+    pub size_unread : ◌≡◌ {A = Got ℕ} None (get32 rest) → ⊥
+    size_unread e = no_size s.bytes.now i bytes_are s.said h rest f e
 
-  -- What the size of a row is read as.
-  pub size_seen : {i : ℕ} {h : Head} {rest : List ℕ} → Found (doc_of s.bytes.now) i h rest → (size : Option (ℕ × Bor (List ℕ))) (n : ℕ) → saw itself size ≡ get32 rest → MatchOption size (n ≡ 0) (λ p. n ≡ p.0)
-      → n ≡ size_told (nth (doc_of s.bytes.now) i)
-  size_seen {i = i} {h = h} {rest = rest} f None n e g = absurd (no_size s.bytes.now i bytes_are s.said h rest f e)
-  size_seen {i = i} {h = h} {rest = rest} f (Some q) n e g = g ∙ size_told_lem s.bytes.now i bytes_are s.said h rest f q.0 q.1.now e
+    pub size_read : {n : ℕ} {r : List ℕ} → ◌≡◌ {A = Got ℕ} (Some (n, r)) (get32 rest) → n ≡ size_told (nth (doc_of s.bytes.now) i)
+    size_read {n = n} {r = r} e = size_told_lem s.bytes.now i bytes_are s.said h rest f n r e

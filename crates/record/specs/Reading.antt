@@ -4,7 +4,7 @@ use Rattle.std.proofs.Math.Option.{none, some}
 use Rattle.std.specs.Borrow.{Bor}
 use Rattle.types.specs.declared.types.ObjType.{ObjType}
 use Rattle.document.specs.declared.view.Head.{Head}
-use Rattle.document.specs.Places.{nth, pairs, head_of}
+use Rattle.document.specs.Places.{nth, pairs, head_of, size_told, entry_told}
 use Rattle.meaning.specs.Documents.{DocRow, Obj, Doc}
 use Rattle.record.specs.declared.cursor.Cursor.{Cursor}
 use Rattle.record_codec.specs.Codec.{Got, get_many}
@@ -60,3 +60,19 @@ pub record Found (d : Doc) (i : ℕ) (h : Head) (rest : List ℕ) : Type 0 where
 abbrev pub FoundAt : Doc → ℕ → Option (Head × Bor (List ℕ)) → Type 0
 FoundAt d i None = nth d i ≡ none
 FoundAt d i (Some p) = Found d i p.0 p.1.now
+
+-- The number with which a row begins: its size.
+abbrev pub SizeAt : Doc → ℕ → Option ℕ → Type 0
+SizeAt d i None = nth d i ≡ none
+SizeAt d i (Some n) = n ≡ size_told (nth d i)
+
+-- The bytes that begin with the n-th entry of the object at a place.
+pub record EntryFollows (d : Doc) (i n : ℕ) (keyed : Bool) (bs : List ℕ) : Type 0 where
+  pub slot : Slot
+  pub more : List ℕ
+  pub told : entry_told (nth d i) n ≡ some slot
+  pub got : get_slot keyed bs ≡ Some (slot, more)
+
+abbrev pub EntryAt : Doc → ℕ → ℕ → Option (Bool × Bor (List ℕ)) → Type 0
+EntryAt d i n None = entry_told (nth d i) n ≡ none
+EntryAt d i n (Some p) = EntryFollows d i n p.0 p.1.now

@@ -2,7 +2,7 @@ ghost use Rattle.std.specs.Prelude.{◌≡◌, ℕ, ◌<◌, true, length, take,
 ghost use Rattle.types.specs.declared.error.Refusal.TheVariants.{InvalidLayout};
 ghost use Rattle.record_codec.specs.Layout.{put_obj, parsed, doc_of};
 ghost use Rattle.record.specs.Index.{offsets, entry_offsets, first_numbers, entry_count};
-ghost use Rattle.record.specs.Reading.{FoundAt};
+ghost use Rattle.record.specs.Reading.{FoundAt, SizeAt, EntryAt};
 ghost use Rattle.record.specs.Told.{bare_record, told_by};
 
 use crate::cursor::Cursor;
@@ -82,6 +82,32 @@ impl<'a> RecordIndex<'a> {
         }
         take_head(&self.bytes[self.places.starts[i] as usize..])
     }
+
+    // How many entries or bytes the row at that place has: it begins with the
+    // number.
+    fn size_at(&self, i: usize) -> Option<usize>
+        ensures { SizeAt (doc_of self.now.bytes.now) i result }
+    {
+        let (_, row) = self.row_at(i)?;
+        let (size, _) = take_u32(row)?;
+        Some(size as usize)
+    }
+
+    // The bytes that begin with that entry, and whether it has a key.
+    fn entry_at(&self, i: usize, n: usize) -> Option<(bool, &[u8])>
+        ensures { EntryAt (doc_of self.now.bytes.now) i n result }
+    {
+        let (head, row) = self.row_at(i)?;
+        if head.kind == ObjType::Text {
+            return None;
+        }
+        let (count, _) = take_u32(row)?;
+        if n >= count as usize {
+            return None;
+        }
+        let place = self.places.entries[self.places.firsts[i] as usize + n];
+        Some((!head.kind.is_sequence(), &self.bytes[place as usize..]))
+    }
 }
 
 impl Rows for RecordIndex<'_> {
@@ -95,38 +121,17 @@ impl Rows for RecordIndex<'_> {
         self.row_at(i).map(|(head, _)| head)
     }
 
-    // A row begins with the number of its entries or of its bytes.
     fn size(&self, i: usize) -> usize {
-        let Some((_, row)) = self.row_at(i) else {
-            return 0;
-        };
-        take_u32(row).map_or(0, |(size, _)| size as usize)
+        self.size_at(i).unwrap_or(0)
     }
 
     fn entry(&self, i: usize, n: usize) -> Option<Entry<'_>> {
-        let (head, row) = self.row_at(i)?;
-        if head.kind == ObjType::Text {
-            return None;
-        }
-        let (count, _) = take_u32(row)?;
-        if n >= count as usize {
-            return None;
-        }
-        let place = self.places.entries[self.places.firsts[i] as usize + n] as usize;
-        let keyed = !head.kind.is_sequence();
-        let (entry, _) = take_entry(keyed, &self.bytes[place..])?;
+        let (keyed, bytes) = self.entry_at(i, n)?;
+        let (entry, _) = take_entry(keyed, bytes)?;
         Some(entry)
     }
 
-    #[tactic(
-        auto,
-        using(
-            crate::proofs::Held::text_none,
-            crate::proofs::Held::text_some,
-            crate::proofs::Held::text_unread,
-            crate::proofs::Scanning::text_is
-        )
-    )]
+    #[tactic(auto, using(crate::proofs::Held::text_none, crate::proofs::Held::text_some, crate::proofs::Held::text_unread, crate::proofs::Scanning::text_is))]
     fn text(&self, i: usize) -> Option<&[u8]> {
         let (head, row) = self.row_at(i)?;
         if head.kind != ObjType::Text {
