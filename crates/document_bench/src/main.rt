@@ -31,12 +31,7 @@ fn main(rt: HostRuntime) -> anyhow::Result<()> {
 fn time_record(rt: &HostRuntime, bytes: &[u8]) -> anyhow::Result<()> {
     let mut record = ShelfRecord::bare_root();
     let start = Instant::now(rt)?;
-    let mut opened = 0u32;
-    for _ in 0..OPENINGS {
-        if record.open(bytes).is_ok() {
-            opened = opened.saturating_add(1);
-        }
-    }
+    let opened = (0..OPENINGS).filter(|_| record.open(bytes).is_ok()).count();
     let micros = start.elapsed(rt)?.as_micros();
     eprintln!(rt;
         "a record of {} bytes opened {opened} times: {micros} microseconds",
