@@ -47,9 +47,7 @@ impl<'a> RecordIndex<'a> {
     }
 
     // Reads a whole record once, and writes the index whole. Where the bytes
-    // do not follow the layout, the order of objects aside, it stays. In
-    // place: a result that holds an index is copied twice more, and 200
-    // openings take 19.5 ms in place of 17.5.
+    // do not follow the layout, the order of objects aside, it stays.
     pub fn read(&mut self, bytes: &'a [u8]) -> Result<(), Refusal>
         ensures { elim result [ Ok _ ↦ self.new.bytes.now ≡ bytes.now | Err e ↦ (e ≡ InvalidLayout) × (parsed bytes.now ≡ None) × (self.new ≡ self.old) ] }
     {

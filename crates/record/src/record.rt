@@ -38,7 +38,6 @@ impl<'a> OpenRecord<'a> for ShelfRecord<'a> {
         if !check_rising(&index) {
             return Err(Refusal::InvalidLayout);
         }
-        // Not `Checked::check`, which would copy the index, as in its `read`.
         if !check_rows(&index) {
             return Err(Refusal::UnlawfulRows);
         }
