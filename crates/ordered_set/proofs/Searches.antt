@@ -1,9 +1,8 @@
 -- Where an item stands in a rising list.
-use Rattle.std.proofs.Common.{◌≡◌, ℕ, zero, suc, ◌+◌, ◌<◌, ◌≤◌, true, false, ◌||◌, List, [], ◌∷◌, length, get_or, drop, Result, Ok, Err, Ordering, Less, Equal, Greater, sym, refl, ap, ◌∙◌, subst, ⊎_elim, arith, length-drop}
-use Rattle.std.proofs.lemmas.List.{get_or_read, get_or_default, get_or-drop, drop_more}
+use Rattle.std.proofs.Common.{◌≡◌, ℕ, zero, suc, ◌+◌, ◌<◌, ◌≤◌, true, false, ◌||◌, List, [], ◌∷◌, length, get_or, drop, Ok, Err, Less, Equal, Greater, sym, refl, ap, ◌∙◌, subst, ⊎_elim, arith, length-drop}
+use Rattle.std.proofs.lemmas.List.{get_or_read, get_or-drop, drop_more}
 use Rattle.std.proofs.lemmas.Bool.{cases_lt}
-use Rattle.std.specs.Ordering.{is_lt, is_eq, ordering_index, ordering_reverse}
-use Rattle.std.specs.List.Sorted.{IsSearchInRange, IsBinarySearchResult, IsNonDecreasingBy}
+use Rattle.std.specs.Ordering.{is_lt, is_eq, ordering_reverse}
 use Rattle.ordered_set.specs.Orders.{Order}
 use Rattle.ordered_set.specs.Sets.{Rising, has, before, found}
 
@@ -66,7 +65,15 @@ module _ {X : Type 0} (o : Order X) (x : X) where
     lower : (k : ℕ) (d : X) → k < m → o.compare (get_or xs k d) y ≡ Less
     lower k d h = rw (here d) (up k m d h l)
 
-    -- what stands from an item on that is greater is greater too
+    -- a turn of the search that goes up
+    pub less_upto : o.compare y x ≡ Less → AllLess o x xs (m + 1)
+    less_upto e k d h =
+        ⊎_elim
+        (λ (g : k < m). o.trans (get_or xs k d) y x (lower k d g) e)
+        (λ (g : m ≤ k). let z : k ≡ m = omega arith in rw z (ap (λ w. o.compare w x) (sym (here d)) ∙ e))
+        (cases_lt k m)
+
+    -- a turn that goes down
     pub greater_from : o.compare y x ≡ Greater → AllGreater o x xs m
     greater_from e k d h j =
         ⊎_elim
@@ -97,33 +104,3 @@ module _ {X : Type 0} (o : Order X) (x : X) where
         let a : has o.compare x xs ≡ true = has_past xs m (omega arith) less ∙ (ap (has o.compare x) split ∙ ap (λ r. is_eq r || has o.compare x (drop (m + 1) xs)) top) in
         let b : before o.compare x xs ≡ m = before_is xs m (omega arith) less (subst NotLess (sym split) (ap is_lt top)) in
         rw (a, b)
-
-  -- the comparisons with x rise along the items
-  comparisons_rise : (xs : List X) → Rising o.compare xs → IsNonDecreasingBy (λ y. ordering_index (o.compare y x)) xs
-  comparisons_rise xs up i j d le lt =
-      ⊎_elim
-      (λ (g : i < j). go (get_or xs i d) (get_or xs j d) (up i j d g lt) (o.compare (get_or xs j d) x) refl)
-      (λ (g : j ≤ i). let e : i ≡ j = omega arith in rw e (omega arith))
-      (cases_lt i j)
-    where
-      top : (r : Ordering) → ordering_index r ≤ 2
-      top Less = omega arith
-      top Equal = omega arith
-      top Greater = omega arith
-
-      go : (a b : X) → o.compare a b ≡ Less → (r : Ordering) → o.compare b x ≡ r → ordering_index (o.compare a x) ≤ ordering_index r
-      go a b h Less e = rw (o.trans a b x h e) (omega arith)
-      go a b h Equal e =
-          let f : o.compare a x ≡ Less = o.flip x a ∙ ap ordering_reverse (sym (o.alike b x a e) ∙ (o.flip a b ∙ ap ordering_reverse h)) in
-          rw f (omega arith)
-      go a b h Greater e = top (o.compare a x)
-
-  -- the library's binary search finds x, or the place where it would go
-  pub searched : (xs : List X) → Rising o.compare xs → (r : Result ℕ ℕ) → IsSearchInRange r (length xs) → IsBinarySearchResult (λ y. o.compare y x) xs r → r ≡ found o.compare x xs
-  searched [] up (Ok i) h e = absurd (omega arith)
-  searched (z ∷ zs) up (Ok i) h e =
-      let y = get_or (z ∷ zs) i z in
-      sym (found_here (z ∷ zs) i y up h (get_or_default (z ∷ zs) i z y h) (e z))
-  searched xs up (Err i) h e =
-      let p = e (comparisons_rise xs up) in
-      sym (found_not xs i h (λ k d l. p.0 k d (omega arith) l) (λ k d g l. p.1 k d g l))

@@ -7,13 +7,25 @@ ghost use Rattle.ordered_set.specs.Sets.{Rising, has, before, found, members, Or
 use crate::order::TotalOrder;
 use sequence_tree::error::SequenceError;
 use sequence_tree::places::{insert_one, remove_one};
+use std::cmp::Ordering;
 
-// Where x stands among items that rise, or where it would go.
+// Where x stands among items that rise, or where it would go. By hand: the
+// library's search goes on after it has met x, and comparing is what costs.
 pub fn find<O: TotalOrder>(order: &O, items: &[O::Item], x: O::Item) -> Result<usize, usize>
     requires { Rising (O.TotalOrder.order order.now) items.now }
     ensures { result ≡ found (O.TotalOrder.order order.now) x items.now }
 {
-    items.binary_search_by(|item| order.compare(*item, x))
+    let mut low = 0;
+    let mut high = items.len();
+    while low < high {
+        let mid = low + (high - low) / 2;
+        match order.compare(items[mid], x) {
+            Ordering::Less => low = mid + 1,
+            Ordering::Greater => high = mid,
+            Ordering::Equal => return Ok(mid),
+        }
+    }
+    Err(low)
 }
 
 // How many of the places an ordered set has in use. Each call is lent the places and the order: an
