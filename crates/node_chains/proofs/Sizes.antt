@@ -1,7 +1,7 @@
 -- Chains as one value: what holds of the places holds as long as there are as many.
 use Rattle.std.proofs.Common.{◌≡◌, ℕ, ◌-◌, List, length, sym, refl, ap, ◌∙◌, subst}
 use Rattle.node_chains.specs.Chains.{Placing, Emptied, Freed}
-use Rattle.node_chains.specs.Changes.{free_row, SameSizes, Empties, Frees}
+use Rattle.node_chains.specs.Changes.{free_row, SameSizes, SameSlices, Empties, Frees}
 use Rattle.node_chains.specs.declared.node.Node.{Node}
 use Rattle.node_chains.specs.declared.chains.Chains.{Chains}
 
@@ -14,6 +14,12 @@ same_self m = record { nodes = refl; chain = refl }
 
 pub same_then : {a b c : Chains} → SameSizes a b → SameSizes b c → SameSizes a c
 same_then h k = record { nodes = k.nodes ∙ h.nodes; chain = k.chain ∙ h.chain }
+
+pub slices_self : (m : Chains) → SameSlices m m
+slices_self m = record { nodes = refl; starts = refl; chain = refl }
+
+pub slices_then : {a b c : Chains} → SameSlices a b → SameSlices b c → SameSlices a c
+slices_then h k = record { nodes = k.nodes ∙ h.nodes; starts = k.starts ∙ h.starts; chain = k.chain ∙ h.chain }
 
 module _ {m0 m : Chains} (e : SameSizes m0 m) where
   pub free_same : free_row m ≡ free_row m0

@@ -19,6 +19,12 @@ pub record SameSizes (m m2 : Chains) : Type 0 where
   pub nodes : length m2.nodes.now ≡ length m.nodes.now
   pub chain : length m2.chain.now ≡ length m.chain.now
 
+-- They lie in the same slices as before, so whoever lent these learns what became of them.
+pub record SameSlices (m m2 : Chains) : Type 0 where
+  pub nodes : m2.nodes.ghost_name ≡ m.nodes.ghost_name
+  pub starts : m2.starts.ghost_name ≡ m.starts.ghost_name
+  pub chain : m2.chain.ghost_name ≡ m.chain.ghost_name
+
 -- Another item stands at a place.
 abbrev pub with_item : List Node → ℕ → Item → List Node
 with_item nodes i item = slice_set nodes i (record { item = item; parent = up_at nodes i; depth = lev_at nodes i })

@@ -1,40 +1,43 @@
 -- Binary search among keys that rise.
-use Rattle.std.proofs.Common.{◌≡◌, ℕ, ◌<◌, ◌≤◌, List, length, get_or, Ordering, Less, Equal, Greater, Result, Ok, Err, sym, refl, ap, ◌∙◌, ⊎_elim, arith, MatchResult}
-use Rattle.std.proofs.lemmas.List.{get_or_default}
+use Rattle.std.proofs.Common.{◌≡◌, ℕ, ◌+◌, ◌<◌, ◌≤◌, List, length, get_or, Less, Equal, Greater, sym, ap, ◌∙◌, subst, ⊎_elim, arith}
 use Rattle.std.proofs.lemmas.Bool.{cases_lt}
-use Rattle.std.specs.Ordering.{ordering_index}
-use Rattle.std.specs.List.Sorted.{IsSearchInRange, IsBinarySearchResult, IsNonDecreasingBy}
 use Rattle.meaning.specs.Entries.{Key, compare_keys}
-use Rattle.node_table.specs.Keys.{KeysRise, Found, Missing}
+use Rattle.node_table.specs.Keys.{KeysRise, Above, Below, Found}
 use Rattle.node_table.proofs.KeyOrder.{less_less, turned, keys_same}
 
-module _ (key : ℕ → Key) (chain : List ℕ) (k : Key) (R : KeysRise key chain) where
-  top : (r : Ordering) → ordering_index r ≤ 2
-  top Less = omega arith
-  top Equal = omega arith
-  top Greater = omega arith
+-- On the way there: k lies between two positions.
+pub record Between (key : ℕ → Key) (chain : List ℕ) (k : Key) (low high : ℕ) : Type 0 where
+  pub order : low ≤ high
+  pub within : high ≤ length chain
+  pub above : Above key chain k low
+  pub below : Below key chain k high
 
-  rises : (a b : Key) → compare_keys a b ≡ Less → (r : Ordering) → compare_keys b k ≡ r → ordering_index (compare_keys a k) ≤ ordering_index r
-  rises a b h Less e = rw (less_less a b k h e) (omega arith)
-  rises a b h Equal e = let f : compare_keys a k ≡ Less = ap (compare_keys a) (sym (keys_same b k e)) ∙ h in rw f (omega arith)
-  rises a b h Greater e = top (compare_keys a k)
+module _ (key : ℕ → Key) (chain : List ℕ) (k : Key) (low high mid : ℕ) (B : Between key chain k low high) (R : KeysRise key chain) (lo : low ≤ mid) (hi : mid < high) where
+  pub low_up : compare_keys (key (get_or chain mid 0)) k ≡ Less → Between key chain k (mid + 1) high
+  low_up h = record {
+    order = omega arith;
+    within = B.within;
+    above = λ q l. ⊎_elim
+        (λ (a : q < mid). less_less (key (get_or chain q 0)) (key (get_or chain mid 0)) k (R.rises q mid a (omega (arith, B.within))) h)
+        (λ (a : mid ≤ q). let e : mid ≡ q = omega arith in subst (λ p. compare_keys (key (get_or chain p 0)) k ≡ Less) e h) (cases_lt q mid);
+    below = B.below;
+  }
 
-  -- the comparisons with k rise along the chain
-  all_rise : IsNonDecreasingBy (λ c. ordering_index (compare_keys (key c) k)) chain
-  all_rise i j d le lt =
-      ⊎_elim
-      (λ (g : i < j).
-      let a = get_or_default chain i d 0 (omega arith) in
-      let b = get_or_default chain j d 0 lt in
-      rw (a, b) (rises (key (get_or chain i 0)) (key (get_or chain j 0)) (R.rises i j g lt) (compare_keys (key (get_or chain j 0)) k) refl))
-      (λ (g : j ≤ i). let e : i ≡ j = omega arith in rw e (omega arith))
-      (cases_lt i j)
+  pub high_down : compare_keys (key (get_or chain mid 0)) k ≡ Greater → Between key chain k low mid
+  high_down h = record {
+    order = lo;
+    within = omega (arith, B.within);
+    above = B.above;
+    below = λ q a l. ⊎_elim
+        (λ (b : mid < q). less_less k (key (get_or chain mid 0)) (key (get_or chain q 0)) (turned (key (get_or chain mid 0)) k h) (R.rises mid q b l))
+        (λ (b : q ≤ mid). let e : mid ≡ q = omega arith in subst (λ p. compare_keys k (key (get_or chain p 0)) ≡ Less) e (turned (key (get_or chain mid 0)) k h)) (cases_lt mid q);
+  }
 
-  -- the library's search finds the key, or the place where it would go
-  pub searched : (r : Result ℕ ℕ) → IsSearchInRange r (length chain) → IsBinarySearchResult (λ c. compare_keys (key c) k) chain r → MatchResult r (Found key chain k) (Missing key chain k)
-  searched (Ok i) h e =
-      let z = keys_same (key (get_or chain i 0)) k (e 0) in
-      record { inside = h; same = z; above = λ q l. ap (compare_keys (key (get_or chain q 0))) (sym z) ∙ R.rises q i l h }
-  searched (Err i) h e =
-      let p = e all_rise in
-      record { within = h; above = λ q l. p.0 q 0 (omega arith) l; below = λ q l m. turned (key (get_or chain q 0)) k (p.1 q 0 l m) }
+  pub found : compare_keys (key (get_or chain mid 0)) k ≡ Equal → Found key chain k mid
+  found h =
+      let e = keys_same (key (get_or chain mid 0)) k h in
+      record {
+        inside = omega (arith, B.within);
+        same = e;
+        above = λ q l. ap (compare_keys (key (get_or chain q 0))) (sym e) ∙ R.rises q mid l (omega (arith, B.within));
+      }

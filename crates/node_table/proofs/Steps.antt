@@ -1,14 +1,14 @@
 -- Changes of the chains, seen from the tables.
 use Rattle.std.proofs.Common.{◌≡◌, ℕ, ◌<◌, List, length, ap, ◌∙◌, subst, length-set}
 use Rattle.packed_rows.specs.Rows.{row}
-use Rattle.node_chains.specs.Tree.{Under}
+use Rattle.node_chains.specs.Tree.{Tree, Under}
 use Rattle.node_chains.specs.Chains.{Moved}
 use Rattle.node_chains.specs.Changes.{free_row, SameSizes, ItemSet, with_item}
 use Rattle.node_chains.specs.declared.node.Item.{Item}
 use Rattle.node_chains.specs.declared.node.Node.{Node}
 use Rattle.node_chains.specs.declared.chains.Chains.{Chains}
 use Rattle.node_chains.proofs.Sizes.{free_same}
-use Rattle.node_table.specs.Held.{Datum, Touched}
+use Rattle.node_table.specs.Held.{Datum, Used, Dry, Changed, Stands, Touched, held}
 use Rattle.node_table.specs.Sound.{Sound}
 
 -- what holds with a new item holds after it was set
@@ -41,6 +41,22 @@ refill_same S et es P h = rw (S.nodes, S.starts, S.chain, et, es) h
 
 pub rows_same : (m : Chains) {t s : List ℕ} → m.starts.now ≡ t → m.chain.now ≡ s → (P : List ℕ → List ℕ → Type 0) → P t s → P m.starts.now m.chain.now
 rows_same m et es P h = rw (et, es) h
+
+-- what holds of chains holds of the slices that they lay in
+pub dry_lent : {U : Type 0} (m : Chains) {nodes : List Node} → nodes ≡ m.nodes.now → (u : ℕ → List U) → Dry m.nodes.now u → Dry nodes u
+dry_lent m en u h = rw en h
+
+pub stands_lent : (m : Chains) {t s : List ℕ} → t ≡ m.starts.now → s ≡ m.chain.now → (R : ℕ → List ℕ) (o : ℕ) → Stands R (row m.starts.now m.chain.now) o → Stands R (row t s) o
+stands_lent m et es R o h = rw (et, es) h
+
+pub used_lent : (m : Chains) {f g bytes : ℕ} {nodes : List Node} {t s : List ℕ} → nodes ≡ m.nodes.now → t ≡ m.starts.now → s ≡ m.chain.now → Used g m.nodes.now m.starts.now m.chain.now bytes → g ≡ f → Used f nodes t s bytes
+used_lent m {f} {g} {bytes} {nodes} {t} {s} en et es h e = subst (λ x. Used x nodes t s bytes) e (rw (en, et, es) h)
+
+-- (that they are in use tells which slices are meant)
+module _ (m : Chains) {f bytes : ℕ} {nodes : List Node} {t s : List ℕ} (Us : Used f nodes t s bytes) (en : nodes ≡ m.nodes.now) (et : t ≡ m.starts.now) (es : s ≡ m.chain.now) where
+  pub changed_lent : {U : Type 0} (R : ℕ → List ℕ) (o : ℕ) (g : Tree (Datum U) → Tree (Datum U)) (a : Tree (Datum U)) (keys strings : List ℕ) (u : ℕ → List U)
+      → Changed R o g a (held m.nodes.now m.starts.now m.chain.now keys strings u) → Changed R o g a (held nodes t s keys strings u)
+  changed_lent R o g a keys strings u h = rw (en, et, es) h
 
 -- the row of the free places by another name
 pub moved_at : {f g k o at r : ℕ} {item : Item} {nodes nodes2 : List Node} {t s t2 s2 : List ℕ} → g ≡ f → Moved g k o at r item nodes nodes2 t s t2 s2 → Moved f k o at r item nodes nodes2 t s t2 s2

@@ -1,5 +1,6 @@
 -- One entry changed where it lies.
-use Rattle.std.proofs.Common.{◌≡◌, ℕ, zero, suc, ◌+◌, ◌-◌, ◌<◌, ◌≤◌, true, false, ◌⊎◌, List, ℤ, [], length, get_or, sym, refl, ap, ◌∙◌, inl, ⊎_elim, arith, rules}
+use Rattle.std.proofs.Common.{◌≡◌, ℕ, zero, suc, ◌+◌, ◌-◌, ◌<◌, ◌≤◌, true, false, ◌⊎◌, List, ℤ, [], length, get_or, sym, refl, ap, ◌∙◌, inl, ⊎_elim, arith, rules, w64, SFits, to_z, of_z}
+use Rattle.std.proofs.lemmas.Int.{to_z-of_z}
 use Rattle.std.proofs.lemmas.List.{places}
 use Rattle.std.proofs.lemmas.Bool.{cases_eq}
 use Rattle.sequence_tree.specs.Lists.{spliced}
@@ -87,6 +88,11 @@ module _ {U : Type 0} (c : ℕ) (nodes : List Node) (it : Item) (l : c < length 
   pub raised_here : Touched {U = U} (raised n) c nodes (with_item nodes c (record { content = content; conflict = it.conflict; key_len = it.key_len; string_len = it.string_len }))
   raised_here = rw (is, e) (touches c nodes (record { content = raised_content n (item_at nodes c).content; conflict = (item_at nodes c).conflict; key_len = (item_at nodes c).key_len; string_len = (item_at nodes c).string_len }) l (raised n)
       refl refl (branches_raised n (item_at nodes c).content) (text_raised n (item_at nodes c).content) (λ keys strings u. refl))
+
+-- the same where the number was passed on
+module _ {U : Type 0} (c : ℕ) (nodes : List Node) (it : Item) (l : c < length nodes) (e : it ≡ item_at nodes c) (n : ℤ) (h : SFits w64 n) (content : Content) (is : content ≡ raised_content (to_z w64 (of_z w64 n)) it.content) where
+  pub raised_passed : Touched {U = U} (raised n) c nodes (with_item nodes c (record { content = content; conflict = it.conflict; key_len = it.key_len; string_len = it.string_len }))
+  raised_passed = raised_here c nodes it l e n content (is ∙ ap (λ z. raised_content z it.content) (to_z-of_z w64 n h))
 
 -- the length of a list with a part replaced
 spliced_length : {X : Type 0} (xs ys : List X) (at k : ℕ) → at + k ≤ length xs → length (spliced xs at k ys) + k ≡ length xs + length ys

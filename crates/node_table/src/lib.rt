@@ -1,13 +1,13 @@
 // The memory of a screen's value: nodes in tables, with packed rows of their children and units.
 #![tactic(auto)]
 
-mod edits;
+pub mod edits;
 pub mod find;
-mod in_place;
-mod reads;
+pub mod in_place;
+pub mod reads;
 pub mod reset;
 pub mod tables;
 #[cfg(test)]
 mod tests;
 pub mod values;
-mod weigh;
+pub mod weigh;

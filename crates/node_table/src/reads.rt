@@ -1,5 +1,6 @@
 // Reading the tree in the tables.
 ghost use Rattle.std.specs.Prelude.{◌≡◌, ℕ, ◌+◌, ◌*◌, ◌<◌, ◌≤◌, length};
+ghost use Rattle.packed_rows.specs.Rows.{row};
 ghost use Rattle.node_chains.specs.Chains.{item_at};
 ghost use Rattle.node_table.specs.Held.{slot};
 ghost use Rattle.node_table.specs.Edits.{nodes_in, kids, key_in, string_in, units_at, units_used};
@@ -10,12 +11,19 @@ use packed_rows::rows::row_of;
 use types::bounds::{KEY_BYTES, SCALAR_BYTES};
 
 // The first n bytes of the slot i, where each is `width` bytes wide.
-fn slot_of(bytes: &[u8], width: usize, i: usize, n: usize) -> &[u8]
+pub(crate) fn slot_of(bytes: &[u8], width: usize, i: usize, n: usize) -> &[u8]
     requires { width * i + n ≤ length bytes.now }
     ensures { result.now ≡ slot width bytes.now i n }
 {
     let from = width * i;
     &bytes[from..from + n]
+}
+
+// The units of the text at c. Over the slices, which may be in any order.
+pub fn text_at<'a, U: Copy>(begins: &[u32], units: &'a [U], c: usize) -> &'a [U]
+    ensures { result.now ≡ row begins.now units.now c }
+{
+    row_of(units, begins, c)
 }
 
 impl<'m, U: Copy> Tables<'m, U> {
@@ -57,7 +65,7 @@ impl<'m, U: Copy> Tables<'m, U> {
     pub fn text(&self, c: usize) -> &[U]
         ensures { result.now ≡ units_at self.now c }
     {
-        row_of(self.units, self.begins, c)
+        text_at(self.begins, self.units, c)
     }
 
     // How many units all texts have.

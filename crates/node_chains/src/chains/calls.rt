@@ -1,7 +1,7 @@
 ghost use Rattle.std.specs.Prelude.{◌≡◌, ℕ, ◌+◌, ◌-◌, ◌^◌, ◌<◌, ◌≤◌, [], length, ◌≢◌, slice_index};
 ghost use Rattle.packed_rows.specs.Rows.{row};
 ghost use Rattle.node_chains.specs.Chains.{Placing, Moved, item_at, lev_at, up_at};
-ghost use Rattle.node_chains.specs.Changes.{free_row, kids, SameSizes, ItemSet, Moves, Empties, Frees, Unlinks};
+ghost use Rattle.node_chains.specs.Changes.{free_row, kids, SameSizes, SameSlices, ItemSet, Moves, Empties, Frees, Unlinks};
 
 use super::Chains;
 use crate::node::{Item, Node};
@@ -77,7 +77,8 @@ impl<'m> Chains<'m> {
 
     pub fn set_item(&mut self, i: usize, item: Item)
         requires { i < length self.old.nodes.now }
-        ensures { ItemSet i item self.old self.new }
+        ensures set { ItemSet i item self.old self.new }
+        ensures slices { SameSlices self.old self.new }
     {
         self.nodes[i].item = item;
     }
@@ -92,6 +93,7 @@ impl<'m> Chains<'m> {
         requires bare { kids self.old (slice_index (kids self.old a) k) ≡ [] }
         requires deep { (b ≢ free_row self.old) → lev_at self.old.nodes.now b < 17 }
         ensures sizes { SameSizes self.old self.new }
+        ensures slices { SameSlices self.old self.new }
         ensures moved { Moves a k b at result item self.old self.new }
     {
         relink(self.nodes, self.starts, self.chain, a, k, b, at, item)
@@ -104,6 +106,7 @@ impl<'m> Chains<'m> {
         requires child { k < length (kids self.old i) }
         requires bare { kids self.old (slice_index (kids self.old i) k) ≡ [] }
         ensures sizes { SameSizes self.old self.new }
+        ensures slices { SameSlices self.old self.new }
         ensures freed { Frees i k self.old self.new }
     {
         let free = self.free_row();
@@ -118,6 +121,7 @@ impl<'m> Chains<'m> {
         requires placed { up_at self.old.nodes.now i ≢ free_row self.old }
         requires deep { 17 ≤ lev_at self.old.nodes.now i + depth }
         ensures sizes { SameSizes self.old self.new }
+        ensures slices { SameSlices self.old self.new }
         ensures emptied { Empties i depth self.old self.new }
     {
         for n in (0..self.children(i).len()).rev() {
@@ -132,6 +136,7 @@ impl<'m> Chains<'m> {
         requires inside { c < free_row self.old }
         requires placed { up_at self.old.nodes.now c ≢ free_row self.old }
         ensures sizes { SameSizes self.old self.new }
+        ensures slices { SameSlices self.old self.new }
         ensures emptied { Empties c 17 self.old self.new }
     {
         self.free_children(c, DEPTH);
@@ -143,6 +148,7 @@ impl<'m> Chains<'m> {
         requires placed { up_at self.old.nodes.now o ≢ free_row self.old }
         requires child { k < length (kids self.old o) }
         ensures sizes { SameSizes self.old self.new }
+        ensures slices { SameSlices self.old self.new }
         ensures unlinked { Unlinks o k self.old self.new }
     {
         let child = self.child_at(o, k);

@@ -4,7 +4,7 @@ use Rattle.node_chains.specs.Tree.{relabel, pruned}
 use Rattle.node_chains.specs.Chains.{item_at}
 use Rattle.node_chains.specs.Changes.{free_row}
 use Rattle.node_chains.specs.declared.node.Item.{Item}
-use Rattle.node_chains.proofs.Sizes.{free_same, placing_same}
+use Rattle.node_chains.proofs.Sizes.{free_same, placing_same, slices_then}
 use Rattle.node_table.specs.Held.{item_bytes, Used, Dry, Changed, held, refilled}
 use Rattle.node_table.proofs.Inserts.{used_high, used_up, bytes_bound}
 use Rattle.node_table.proofs.Sums.{below_same}
@@ -58,13 +58,16 @@ overflow_add-bytes g c =
     let M = placing_same c.empty_node.ensures.sizes in
     omega (arith, bytes_bound (used_bare c.requires.lawful c.requires.used M c.empty_node.ensures.emptied W), c.requires.short, c.args.chains.now.few)
 
+pub returns-clause-slices : goal.returns-clause-slices
+returns-clause-slices g c = slices_then (slices_then c.empty_node.ensures.slices c.wipe.ensures.slices) c.set_item.ensures.slices
+
 pub returns-clause-lawful : goal.returns-clause-lawful
 returns-clause-lawful g c =
     let m = c.args.chains.now in
     let W = wiped_at (free_same c.empty_node.ensures.sizes) (ap length c.children-from.ensures ∙ ap (λ i. length (row m.starts.now m.chain.now i)) c.free_row-free.ensures) c.wipe.ensures.wiped in
     let M = placing_same c.empty_node.ensures.sizes in
     let I = c.item-item.ensures in
-    let S = subst (λ k. ItemSet c.args.c (record { content = c.args.content; conflict = c.args.conflict; key_len = k; string_len = c.args.string_len }) c.wipe.new.chains c.set_item.new.self) (ap (λ (y : Item). y.key_len) I) c.set_item.ensures in
+    let S = subst (λ k. ItemSet c.args.c (record { content = c.args.content; conflict = c.args.conflict; key_len = k; string_len = c.args.string_len }) c.wipe.new.chains c.set_item.new.self) (ap (λ (y : Item). y.key_len) I) c.set_item.ensures.set in
     refill_same S c.wipe.ensures.rows.0 c.wipe.ensures.rows.1 (λ xs t s. Used (free_row m) xs t s (c.wipe.new.bytes - c.item-item.result.string_len + c.args.string_len))
     (rw (ap (λ (y : Item). y.string_len) I) (used_refilled c.requires.lawful c.requires.used c.requires.below M c.empty_node.ensures.emptied W c.clear_units.ensures c.args.content c.args.conflict c.args.string_len c.requires.short))
 
@@ -74,7 +77,7 @@ returns-clause-dry g c =
     let W = wiped_at (free_same c.empty_node.ensures.sizes) (ap length c.children-from.ensures ∙ ap (λ i. length (row m.starts.now m.chain.now i)) c.free_row-free.ensures) c.wipe.ensures.wiped in
     let M = placing_same c.empty_node.ensures.sizes in
     let I = c.item-item.ensures in
-    let S = subst (λ k. ItemSet c.args.c (record { content = c.args.content; conflict = c.args.conflict; key_len = k; string_len = c.args.string_len }) c.wipe.new.chains c.set_item.new.self) (ap (λ (y : Item). y.key_len) I) c.set_item.ensures in
+    let S = subst (λ k. ItemSet c.args.c (record { content = c.args.content; conflict = c.args.conflict; key_len = k; string_len = c.args.string_len }) c.wipe.new.chains c.set_item.new.self) (ap (λ (y : Item). y.key_len) I) c.set_item.ensures.set in
     refill_same S c.wipe.ensures.rows.0 c.wipe.ensures.rows.1 (λ xs t s. Dry xs (row c.clear_units.new.begins c.clear_units.new.units))
     (dry_refilled c.requires.lawful c.requires.used c.requires.below M c.empty_node.ensures.emptied W c.clear_units.ensures c.args.content c.args.conflict c.args.string_len c.requires.short c.requires.dry)
 
@@ -91,7 +94,7 @@ returns-clause-changed g c keys strings strings2 string ln ls ls2 rs =
     let W = wiped_at (free_same c.empty_node.ensures.sizes) (ap length c.children-from.ensures ∙ ap (λ i. length (row m.starts.now m.chain.now i)) c.free_row-free.ensures) c.wipe.ensures.wiped in
     let M = placing_same c.empty_node.ensures.sizes in
     let I = c.item-item.ensures in
-    let S = subst (λ k. ItemSet c.args.c (record { content = c.args.content; conflict = c.args.conflict; key_len = k; string_len = c.args.string_len }) c.wipe.new.chains c.set_item.new.self) (ap (λ (y : Item). y.key_len) I) c.set_item.ensures in
+    let S = subst (λ k. ItemSet c.args.c (record { content = c.args.content; conflict = c.args.conflict; key_len = k; string_len = c.args.string_len }) c.wipe.new.chains c.set_item.new.self) (ap (λ (y : Item). y.key_len) I) c.set_item.ensures.set in
     refill_same S c.wipe.ensures.rows.0 c.wipe.ensures.rows.1
     (λ xs t s. Changed (row m.starts.now m.chain.now) c.args.c (λ x. relabel (refilled c.args.content c.args.conflict string) (pruned x)) (held m.nodes.now m.starts.now m.chain.now keys strings (row c.args.begins.now c.args.units.now)) (held xs t s keys strings2 (row c.clear_units.new.begins c.clear_units.new.units)))
     (changed_refilled c.requires.lawful c.requires.used c.requires.below M c.empty_node.ensures.emptied W c.clear_units.ensures c.args.content c.args.conflict c.args.string_len c.requires.short keys strings strings2 string ln ls ls2 rs)

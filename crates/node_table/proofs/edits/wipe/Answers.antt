@@ -2,6 +2,7 @@ use Rattle.std.proofs.Common.{◌≡◌, ◌<◌, length, get_or, ap, ◌∙◌,
 use Rattle.packed_rows.specs.Rows.{row}
 use Rattle.node_chains.specs.Chains.{item_at}
 use Rattle.node_chains.specs.Changes.{free_row}
+use Rattle.node_chains.proofs.Sizes.{slices_then}
 use Rattle.node_table.specs.Held.{item_bytes}
 use Rattle.node_table.proofs.Wipes.{wipe_end, enough, wipe_more}
 use Rattle.node_table.proofs.edits.wipe.Goals as goal
@@ -26,9 +27,10 @@ loop-p-preserved g c =
     let l : c.loop-p.p < length (row m.starts.now m.chain.now (free_row m)) =
     let a = ap length c.children-p-end.ensures in let b = ap (λ i. length (row m.starts.now m.chain.now i)) c.free_row-free.ensures in omega arith in
     record {
-      starts = c.set_item.ensures.starts ∙ I.starts;
-      chain = c.set_item.ensures.chain ∙ I.chain;
-      wiped = wipe_more I.wiped c.child_at-c.result e l c.clear_units.ensures c.set_item.new.self.nodes.now c.item_bytes.result c.set_item.ensures.nodes (c.item_bytes.ensures ∙ ap item_bytes c.item.ensures) c.loop-p.auto.p;
+      slices = slices_then I.slices c.set_item.ensures.slices;
+      starts = c.set_item.ensures.set.starts ∙ I.starts;
+      chain = c.set_item.ensures.set.chain ∙ I.chain;
+      wiped = wipe_more I.wiped c.child_at-c.result e l c.clear_units.ensures c.set_item.new.self.nodes.now c.item_bytes.result c.set_item.ensures.set.nodes (c.item_bytes.ensures ∙ ap item_bytes c.item.ensures) c.loop-p.auto.p;
     }
 
 pub returns-clause-wiped : goal.returns-clause-wiped

@@ -1,7 +1,7 @@
 use Rattle.std.proofs.Common.{◌-◌, ◌<◌, ◌∙◌, sym, ap, arith}
 use Rattle.node_chains.specs.Chains.{up_at, lev_at}
 use Rattle.node_chains.proofs.Frees.{ends_going, some, child_up, child_lev, lev_i, some1, bare1, up1, goes_on}
-use Rattle.node_chains.proofs.Sizes.{free_same, same_then, placing_same, emptied_same, freed_same}
+use Rattle.node_chains.proofs.Sizes.{free_same, same_then, slices_then, placing_same, emptied_same, freed_same}
 use Rattle.node_chains.proofs.chains.Chains.+free_children.Goals as goal
 
 pub overflow_sub-depth : goal.overflow_sub-depth
@@ -44,7 +44,8 @@ loop-n-preserved t c =
     let S = same_then c.loop-n.invariant.sizes c.free_children.ensures.sizes in
     let S2 = same_then S c.free_child.ensures.sizes in
     let E = emptied_same c.loop-n.invariant.sizes c.free_children.new.self c.child_at-child.ensures c.free_children.ensures.emptied in
-    record { sizes = S2; going = goes_on M c.requires.inside c.requires.placed G m E (placing_same S2) (freed_same S c.free_child.new.self c.free_child.ensures.freed) }
+    let L = slices_then (slices_then c.loop-n.invariant.slices c.free_children.ensures.slices) c.free_child.ensures.slices in
+    record { sizes = S2; slices = L; going = goes_on M c.requires.inside c.requires.placed G m E (placing_same S2) (freed_same S c.free_child.new.self c.free_child.ensures.freed) }
 
 pub returns-clause-emptied : goal.returns-clause-emptied
 returns-clause-emptied t c = ends_going c.args.self.now.placing c.requires.inside c.requires.deep c.loop-n.invariant.going (omega arith)

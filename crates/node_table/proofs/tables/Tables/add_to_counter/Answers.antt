@@ -28,7 +28,7 @@ invariant_of-self g c =
     let m = c.args.self.now in
     let S = m.sound in
     let l : c.args.c < length (nodes_in m) = omega (arith, S.used.placing.count, used_high S.used c.requires.used) in
-    record { sound = set_sound c.set_item.ensures (touched_sound S c.requires.below c.requires.used (raised_here c.args.c (nodes_in m) c.item-item.result l c.item-item.ensures c.args.by _ (c.in_ok-content.ensures.1 ∙ ap (λ z. raised_content z c.item-item.result.content) b))) }
+    record { sound = set_sound c.set_item.ensures.set (touched_sound S c.requires.below c.requires.used (raised_here c.args.c (nodes_in m) c.item-item.result l c.item-item.ensures c.args.by _ (c.in_ok-content.ensures.1 ∙ ap (λ z. raised_content z c.item-item.result.content) b))) }
 
 pub returns : goal.returns
 returns g c =
@@ -39,8 +39,8 @@ returns g c =
     record {
       answer = sym (ap (λ (y : Item). raising c.args.by y.content) (sym c.item-item.ensures) ∙ ap (λ z. raising z c.item-item.result.content) (sym b) ∙ c.in_ok-content.ensures.0);
       effect = record {
-        room = record { chains = set_sizes c.set_item.ensures; units = refl };
-        changed = set_same c.set_item.ensures (λ xs t s. Changed (kids m) c.args.c (relabel (raised c.args.by)) (tree_of m) (held xs t s m.keys.now m.strings.now (units_at m)))
+        room = record { chains = set_sizes c.set_item.ensures.set; units = refl };
+        changed = set_same c.set_item.ensures.set (λ xs t s. Changed (kids m) c.args.c (relabel (raised c.args.by)) (tree_of m) (held xs t s m.keys.now m.strings.now (units_at m)))
             ((raised_here c.args.c (nodes_in m) c.item-item.result l c.item-item.ensures c.args.by _ (c.in_ok-content.ensures.1 ∙ ap (λ z. raised_content z c.item-item.result.content) b)).changed _ _ _ _ m.keys.now m.strings.now (units_at m) S.used);
       };
     }

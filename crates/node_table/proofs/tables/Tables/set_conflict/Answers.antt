@@ -17,14 +17,14 @@ pub invariant_of-self : goal.invariant_of-self
 invariant_of-self g c =
     let m = c.args.self.now in
     let l : c.args.c < length (nodes_in m) = omega (arith, m.sound.used.placing.count, used_high m.sound.used c.requires.used) in
-    record { sound = set_sound c.set_item.ensures (touched_sound m.sound c.requires.below c.requires.used (flags c.args.c (nodes_in m) _ l c.item-item.ensures)) }
+    record { sound = set_sound c.set_item.ensures.set (touched_sound m.sound c.requires.below c.requires.used (flags c.args.c (nodes_in m) _ l c.item-item.ensures)) }
 
 pub returns : goal.returns
 returns g c =
     let m = c.args.self.now in
     let l : c.args.c < length (nodes_in m) = omega (arith, m.sound.used.placing.count, used_high m.sound.used c.requires.used) in
     record {
-      room = record { chains = set_sizes c.set_item.ensures; units = refl };
-      changed = set_same c.set_item.ensures (λ xs t s. Changed (kids m) c.args.c (relabel flagged) (tree_of m) (held xs t s m.keys.now m.strings.now (units_at m)))
+      room = record { chains = set_sizes c.set_item.ensures.set; units = refl };
+      changed = set_same c.set_item.ensures.set (λ xs t s. Changed (kids m) c.args.c (relabel flagged) (tree_of m) (held xs t s m.keys.now m.strings.now (units_at m)))
           ((flags c.args.c (nodes_in m) _ l c.item-item.ensures).changed _ _ _ _ m.keys.now m.strings.now (units_at m) m.sound.used);
     }
